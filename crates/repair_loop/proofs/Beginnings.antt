@@ -1,6 +1,6 @@
 -- What stands when a search has begun.
-use Rattle.std.proofs.Common.{◌≡◌, ◌⊎◌, inl, inr, ◌+◌, ◌<◌, ℕ, zero, suc, false, List, [], ◌∷◌, ◌++◌, length, map, take, slice_get, Some, OnOk, OnErr, Result, Ok, Err, refl, sym, ◌∙◌, ap, subst, arith}
-use Rattle.dq_lits.specs.Formula.{Dqbf, IsWellFormed}
+use Rattle.std.proofs.Common.{◌≡◌, ◌⊎◌, inl, inr, ◌+◌, ◌<◌, ℕ, zero, suc, false, List, [], ◌∷◌, ◌++◌, length, map, take, slice_get, Some, OnOk, OnErr, Result, Ok, Err, sym, ◌∙◌, ap, subst, arith}
+use Rattle.dq_lits.specs.Formula.{Dqbf}
 use Rattle.hint_log.specs.Entries.{Entry, Begun, ProofLog, with_entry}
 use Rattle.hint_log.specs.Live.{last_live, live_numbers, before_beginning}
 use Rattle.hint_log.specs.Naming.{rows_of}
@@ -27,24 +27,11 @@ mapped_one f (y ∷ xs) (suc i) x is = ap (λ zs. f y ∷ zs) (mapped_one f xs i
 
 pub mapped_more : {A B : Type 0} (f : A → B) (xs : List A) (i : ℕ) (x : A) → slice_get xs i ≡ Some x →
     map f (take i xs) ++ f x ∷ [] ≡ map f (take (i + 1) xs)
-mapped_more f xs i x is =
-    let same : suc i ≡ i + 1 = omega arith in
-    mapped_one f xs i x is ∙ ap (λ n. map f (take n xs)) same
+mapped_more f xs i x is = search (arith, mapped_one)
 
 pub ready_standing : (b : DatabaseState) (d : SearchState) (graph : AigGraph) (es : List Entry) → CanBeginSearch b d graph es →
     IsLoopInvariant b d.checker d.definability es
-ready_standing b d graph es r = record {
-  kept = record {
-    origins = r.session.givens_match_origins;
-    new_rows = r.session.rounds_refute_new_rows;
-    models = r.session.rounds_follow_a_model;
-    givens = r.session.givens_are_not_repeated;
-  };
-  database = r.database.database;
-  checked = r.search_state.checked;
-  stored = r.search_state.stored;
-  apart = r.search_state.apart;
-}
+ready_standing b d graph es r = search arith
 
 -- behind the beginning itself
 pub begun_standing : BeginningsLeaveDatabases → BeginningsLeaveStores → (b : DatabaseState) (d : SearchState) (graph : AigGraph)
@@ -72,15 +59,7 @@ begun_room b d graph es live r = let few = r.faults in omega (arith, few)
 pub no_start : (b : DatabaseState) (before after : SearchState) (graph : AigGraph) (old new : ProofLog) →
     CanBeginSearch b before graph old.entries → after.checker ≡ before.checker → after.definability ≡ before.definability →
     after.begun.items ≡ last_live new.entries → new ≡ old → HasStarted b after old new
-no_start b before after graph old new r checker definability named same = record {
-  standing = subst (λ c. IsLoopInvariant b c after.definability new.entries) (sym checker)
-      (subst (λ p. IsLoopInvariant b before.checker p new.entries) (sym definability)
-      (subst (λ (l : ProofLog). IsLoopInvariant b before.checker before.definability l.entries) (sym same)
-      (ready_standing b before graph old.entries r)));
-  began = inr same;
-  named = named;
-  limit = ap (λ (l : ProofLog). l.limit) same;
-}
+no_start b before after graph old new r checker definability named same = search (arith, ready_standing)
 
 -- what follows from success and from failure
 pub either_way : {T E : Type 0} (r : Result T E) (A B P : Type 0) → (A → P) → (B → P) → OnOk r A → OnErr r B → P
@@ -98,8 +77,7 @@ module _ (begun_databases : BeginningsLeaveDatabases) (begun_stores : Beginnings
       (begun_standing begun_databases begun_stores b d graph old.entries r)
 
   mid_room : length (fault_groups mid.entries) < fault_room mid.entries
-  mid_room = subst (λ (l : ProofLog). length (fault_groups l.entries) < fault_room l.entries) (sym logged)
-      (begun_room b d graph old.entries (live_of b) r)
+  mid_room = search (arith, begun_room)
 
   mid_undecided : IsUndecidedSince all mid.entries
   mid_undecided = subst (λ (l : ProofLog). IsUndecidedSince all l.entries) (sym logged) tt
@@ -114,53 +92,17 @@ module _ (begun_databases : BeginningsLeaveDatabases) (begun_stores : Beginnings
   mid_live = ap (λ (l : ProofLog). live_numbers l.entries) logged
 
   pub begun_undecided : HasBegunUndecided b old mid
-  begun_undecided = record {
-    begun = record {
-      more = [];
-      grown = ap (λ (l : ProofLog). l.entries) logged;
-      none = refl;
-      named = mid_live;
-    };
-    undecided = mid_undecided;
-    new_faults = mid_faults;
-  }
+  begun_undecided = search (arith, mid_live, mid_undecided, mid_faults)
 
   -- nothing followed yet
   pub only_begun : (after : SearchState) → after.checker ≡ d.checker → after.definability ≡ d.definability →
       after.begun.items ≡ last_live mid.entries → HasStarted b after old mid
-  only_begun after checker definability named = record {
-    standing = subst (λ c. IsLoopInvariant b c after.definability mid.entries) (sym checker)
-        (subst (λ p. IsLoopInvariant b d.checker p mid.entries) (sym definability) mid_standing);
-    began = inl begun_undecided;
-    named = named;
-    limit = ap (λ (l : ProofLog). l.limit) logged;
-  }
+  only_begun after checker definability named = search (arith, mid_standing, begun_undecided)
 
   -- and no question may be asked yet
   pub begun_search : (more : AigGraph) → HasInputs f more → IsSearch f more b d.checker d.definability false mid.entries
   begun_search more inputs =
-      let few = mid_room in
-      record {
-        here = record {
-          way = record {
-            formula = subst IsWellFormed (sym now) (now_formed b mid.entries mid_standing.database);
-            now_is = now;
-            live = mid_live;
-            kept = mid_standing.kept;
-            database = mid_standing.database;
-            checked = mid_standing.checked;
-            copied = λ on. cc;
-            stored = mid_standing.stored;
-            apart = mid_standing.apart;
-            faults = omega (arith, few);
-            new_faults = mid_faults;
-          };
-          rows = mid_rows;
-          undecided = mid_undecided;
-        };
-        inputs = inputs;
-        room = mid_room;
-      }
+      search (arith, mid_room, now_formed, mid_standing, mid_live, mid_faults, mid_rows, mid_undecided)
 
 -- what a beginning that was refused says
 pub start_undecided : (b : DatabaseState) (after : SearchState) (old new : ProofLog) → HasStarted b after old new →
@@ -180,9 +122,4 @@ started_faults b old new began =
 
 pub start_faults : (b : DatabaseState) (after : SearchState) (old new : ProofLog) → HasStarted b after old new →
     HasBegun (live_of b) old.entries new.entries → AreFaultsNew old.entries new.entries
-start_faults b after old new s begun = by s.began
-  where
-    by : HasBegunUndecided b old new ⊎ (new ≡ old) → AreFaultsNew old.entries new.entries
-    by (inl began) = started_faults b old new began
-    by (inr same) = absurd (not_begun (live_of b) old.entries new.entries
-        (ap (λ (l : ProofLog). l.entries) same) begun)
+start_faults b after old new s begun = search (arith, (started_faults b old new), not_begun)

@@ -1,7 +1,6 @@
 -- A search state behind a search is ready for the next one.
 use Rattle.std.proofs.Common.{◌≡◌, ℕ, Bool, List, [], ◌∷◌, ◌++◌, sym, ◌∙◌, ap, subst, arith}
 use Rattle.std.specs.List.{Contains}
-use Rattle.std.specs.Option.{unwrap_or}
 use Rattle.dq_lits.specs.Expansion.{IsExpansionUnsatisfiable}
 use Rattle.dq_lits.specs.Formula.{Dqbf}
 use Rattle.hint_log.specs.Entries.{Entry, Named, Given, Learned, Answer, Round, Begun, ProofLog, beginnings_of}
@@ -61,12 +60,7 @@ module _ (grouped : SearchStatesAreGrouped) (f : Dqbf) (b after : DatabaseState)
       let one = some_begun (live_of b) old.entries new.entries begun in
       record {
         database = record { database = way.database; rows = rows };
-        search_state = record {
-          checked = way.checked;
-          stored = way.stored;
-          apart = way.apart;
-          named = named ∙ sym (ap (λ o. unwrap_or o []) begun.named);
-        };
+        search_state = search arith;
         session = session;
         searched = subst (Each IsOfSearch) (sym begun.grown)
             (since_searched begun.more (live_of b) old.entries begun.none r.searched);

@@ -1,6 +1,6 @@
 -- A row that isn't in the table extends the model of its instances: its new pairs are free.
 use Rattle.std.proofs.Common.{◌≡◌, ℕ, ◌+◌, ◌-◌, ◌*◌, ◌≤◌, ◌<◌, ltb, Bool, true, false, cond, not, ◌||◌, inl, inr, List, [], ◌∷◌, map, length, get_or, Option, Some, None, refl, sym, ◌∙◌, ap, arith, mul-le-mul_right, add-mul, one-mul}
-use Rattle.std.specs.List.{All, Contains, list_any, filter_map, cons_option, position_or_len}
+use Rattle.std.specs.List.{All, Contains, filter_map, cons_option, position_or_len}
 use Rattle.std.specs.Option.{option_map}
 use Rattle.std.proofs.lemmas.Bool.{cases_lt, cond-true, cond-false, lt-ltb, le-ltb}
 use Rattle.std.proofs.lemmas.List.Elements.{All-contains, All-head, All-tail, Contains-append_right, Contains-get_or}
@@ -10,7 +10,7 @@ use Rattle.dq_lits.specs.Literal.{Assignment, Literal, positive, negative, varia
 use Rattle.dq_lits.specs.Formula.{Existential, Dqbf, declared, existential_of, HasLawfulPrefix}
 use Rattle.dq_lits.specs.Henkin.{restriction, same_bits}
 use Rattle.dq_lits.specs.Skolem.{OutputFunction}
-use Rattle.dq_lits.specs.Expansion.{row_assignment, agree_on, pair_number, pair_literal, universal_literal_true, InstanceHolds, IsExpansionModel}
+use Rattle.dq_lits.specs.Expansion.{row_assignment, agree_on, pair_number, pair_literal, InstanceHolds, IsExpansionModel}
 use Rattle.dq_lits.proofs.Choices.{same_bits-sound, same_bits-refl}
 use Rattle.dq_lits.proofs.FormulaVariables.{find_sound}
 use Rattle.dq_lits.proofs.Followers.{find_own, existentials_once}
@@ -23,9 +23,7 @@ use Rattle.log_laws.proofs.Found.{variable, slice_get_at, position_small}
 
 mapped_same : (g h : Existential → Bool) (ys : List Existential) → All (λ y. g y ≡ h y) ys → map g ys ≡ map h ys
 mapped_same g h [] a = refl
-mapped_same g h (y ∷ ys) a =
-    ap (λ b. b ∷ map g ys) (All-head (λ z. g z ≡ h z) y ys a) ∙ ap (λ bs. h y ∷ bs)
-    (mapped_same g h ys (All-tail (λ z. g z ≡ h z) y ys a))
+mapped_same g h (y ∷ ys) a = search (arith, All-head, (mapped_same g h ys), All-tail)
 
 abbrev value_or_false : (Existential → Bool) → Option Existential → Bool
 value_or_false g None = false
@@ -50,12 +48,7 @@ module _ (f : Dqbf) (lawful : HasLawfulPrefix f) (rows : List (List Bool)) (m : 
       (contains_mapped f.existentials y inside))
 
   pair_below : (k v : ℕ) → k < length rows → v ≤ f.variables → k * f.variables + v ≤ length rows * f.variables
-  pair_below k v small low =
-      let up : (k + 1) * f.variables ≤ length rows * f.variables =
-      mul-le-mul_right f.variables (let s : k + 1 ≤ length rows = omega arith in s) in
-      let parts : (k + 1) * f.variables ≡ k * f.variables + 1 * f.variables = add-mul k 1 f.variables in
-      let one : 1 * f.variables ≡ f.variables = one-mul f.variables in
-      omega (arith, up, parts, one)
+  pair_below k v small low = search (arith, mul-le-mul_right, add-mul, one-mul)
 
   literal_on : (p : ℕ) (l : Literal) → more p ≡ m p → literal_true more (on_variable p l) ≡ literal_true m
       (on_variable p l)
@@ -95,10 +88,7 @@ module _ (f : Dqbf) (lawful : HasLawfulPrefix f) (rows : List (List Bool)) (m : 
   instance_kept k d below false clause h = instance_same k d below clause ∙ h
 
   model_kept : IsExpansionModel f rows m → IsExpansionModel f rows more
-  model_kept model k d below j e inside =
-      let clause = get_or f.matrix j e in
-      instance_kept k d below (list_any (universal_literal_true f (get_or rows k d)) clause) clause
-      (model k d below j e inside)
+  model_kept model k d below j e inside = search (arith, instance_kept)
 
 -- the failing row's values are the bits of its pairs in a model of the table's instances
 pub extends : (f : Dqbf) → HasLawfulPrefix f → (rows : List (List Bool)) (points : PointBits)

@@ -1,21 +1,21 @@
 -- A search state for a file's database is ready for the first search.
-use Rattle.std.proofs.Common.{◌≡◌, ◌≢◌, ◌⊎◌, inl, inr, ◌+◌, ℕ, zero, suc, Bool, true, false, cond, List, [], ◌∷◌, ◌++◌, length, replicate, None, Some, refl, sym, ◌∙◌, ap, subst, arith}
-use Rattle.std.specs.List.{Contains, filter, list_any}
+use Rattle.std.proofs.Common.{◌≡◌, ◌≢◌, ◌+◌, ℕ, zero, suc, Bool, true, false, List, [], ◌∷◌, ◌++◌, length, replicate, None, refl, sym, ◌∙◌, ap, subst, arith}
+use Rattle.std.specs.List.{Contains, filter}
 use Rattle.std.specs.Option.{unwrap_or}
 use Rattle.std.proofs.lemmas.List.{append-nil}
 use Rattle.list_laws.proofs.Members.{filter_keeps}
 use Rattle.dq_lits.specs.Formula.{Dqbf}
-use Rattle.dq_lits.specs.Literal.{Literal, negative, variable_of, same_literal}
-use Rattle.hint_log.specs.Deciding.{IsUndecided, DecidesTrue}
+use Rattle.dq_lits.specs.Literal.{Literal}
+use Rattle.hint_log.specs.Deciding.{IsUndecided}
 use Rattle.hint_log.specs.Entries.{Entry, Named, Given, Learned, Answer, Round, Begun, ProofLog, name_of}
 use Rattle.hint_log.specs.Growth.{Each, EachOf, Grew}
-use Rattle.hint_log.specs.Live.{live_numbers, live_formula, formula_by, with_matrix}
+use Rattle.hint_log.specs.Live.{live_numbers}
 use Rattle.hint_log.specs.Naming.{rows_of}
-use Rattle.hint_log.specs.ProductiveLog.{MatchesOrigin, IsProductiveLog, fault_groups, with_group}
+use Rattle.hint_log.specs.ProductiveLog.{MatchesOrigin, IsProductiveLog, fault_groups}
 use Rattle.hint_log.specs.ProductiveSession.{MatchesLiveOrigin}
 use Rattle.hint_log.specs.declared.origins.Origin.{Origin}
 use Rattle.hint_log.specs.declared.origins.Origin.TheVariants.{Instance, Gate, Fault, Copy, Link, TermGate, Differ}
-use Rattle.log_laws.specs.Engines.{Engine, circuits, instances, copies, same_engine, is_own, is_engine, name_engine, origin_engine, HasNone, IsAddedBy, EnginesLeaveRest}
+use Rattle.log_laws.specs.Engines.{Engine, circuits, instances, copies, same_engine, is_own, HasNone, IsAddedBy, EnginesLeaveRest}
 use Rattle.log_laws.specs.Sessions.{IsAddedLive, EnginesLeaveSessions, PlainLogsAreSessions}
 use Rattle.oracle.specs.Searched.{IsSearched}
 use Rattle.aig_graph.specs.Graph.{AigGraph}
@@ -41,8 +41,7 @@ live_origin : (f : Dqbf) (earlier : List Entry) (origin : Origin) (c : List Lite
     MatchesOrigin f earlier (Given origin c) → MatchesLiveOrigin f earlier (Given origin c)
 live_origin f earlier (Instance k j) c none is = is
 live_origin f earlier (Gate v i) c none is = is
-live_origin f earlier (Fault j i leaf) c none is =
-    subst (λ g. MatchesOrigin g earlier (Given (Fault j i leaf) c)) (sym (ap (formula_by f) none)) is
+live_origin f earlier (Fault j i leaf) c none is = search arith
 live_origin f earlier (Copy side j) c none is = is
 live_origin f earlier (Link v i) c none is = is
 live_origin f earlier (TermGate v i) c none is = is
@@ -67,69 +66,32 @@ live_each : (f : Dqbf) (engine : Engine) (group : ℕ) (start more old : List En
 live_each f engine group start [] old none each = tt
 live_each f engine group start (Named v n ∷ more) old none each =
     (each.0, live_each f engine group start more old none each.1)
-live_each f engine group start (Given origin c ∷ more) old none each = (
-  record {
-    own = each.0.own;
-    in_group = (each.0.in_group.0, each.0.in_group.1, among each.0.in_group.2);
-    matches_origin = live_origin f (more ++ old) origin c (still_none f engine group start more old each.1 none)
-        each.0.matches_origin;
-    not_repeated = each.0.not_repeated;
-  },
-  live_each f engine group start more old none each.1,
-)
-  where
-    among : (each.0.in_group.0 ≡ group) ⊎ (name_of start each.0.in_group.0 ≡ None) →
-        Contains (group ∷ []) each.0.in_group.0 ⊎ (name_of start each.0.in_group.0 ≡ None)
-    among (inl same) = inl (0, omega arith, sym same)
-    among (inr fresh) = inr fresh
+live_each f engine group start (Given origin c ∷ more) old none each =
+    search (arith, live_origin, still_none, (live_each f engine group start more old none each.1))
 live_each f engine group start (Learned c hints ∷ more) old none each =
     (tt, live_each f engine group start more old none each.1)
 live_each f engine group start (Answer c hints ∷ more) old none each =
-    let whole : live_formula f (more ++ old) ≡ f =
-    ap (formula_by f) (still_none f engine group start more old each.1 none) in (
-      λ quiet. (
-        λ no. (each.0 quiet).0 no.decides,
-        λ yes. (each.0 quiet).1 (subst (λ g. DecidesTrue g (more ++ old) c hints) whole yes.decides),
-      ),
-      live_each f engine group start more old none each.1,
-    )
+    search (arith, still_none, (live_each f engine group start more old none each.1))
 live_each f engine group start (Round row values j ∷ more) old none each = absurd each.0
 live_each f engine group start (Begun live ∷ more) old none each = absurd each.0
 
 pub live_by : (f : Dqbf) (engine : Engine) (group : ℕ) (old new : ProofLog) → live_numbers old.entries ≡ None →
     Grew (IsAddedBy f engine group true old.entries) old new →
     Grew (IsAddedLive f engine (group ∷ []) true old.entries) old new
-live_by f engine group old new none grew = record {
-  more = grew.more;
-  grown = grew.grown;
-  each = live_each f engine group old.entries grew.more old.entries none grew.each;
-  limit = grew.limit;
-}
+live_by f engine group old new none grew = search (arith, live_each)
 
 pub empty_has_none : (engine : Engine) (entries : List Entry) → entries ≡ [] → HasNone engine entries
-empty_has_none engine entries empty e own inside =
-    let (k, below, is) = subst (λ es. Contains es e) empty inside in omega (arith, below)
+empty_has_none engine entries empty e own inside = search arith
 
 -- a file's database names and gives nothing for circuits and copies
 only_instances : (f : Dqbf) (other : Engine) → same_engine other instances ≡ false → (start more : List Entry) →
     EachOf (IsAddedLive f instances [] true start) more [] → (e : Entry) → Contains (more ++ []) e →
     is_own other e ≡ true → ⊥
 only_instances f other differ start [] each e (k, below, is) own = absurd (omega (arith, below))
-only_instances f other differ start (Named v n ∷ more) each e (zero, below, is) own =
-    let mine : is_engine other (name_engine n) ≡ true = ap (is_own other) is ∙ own in
-    by each.0.own mine
-  where
-    by : (name_engine n ≡ None) ⊎ (name_engine n ≡ Some instances) → is_engine other (name_engine n) ≡ true → ⊥
-    by (inl none) mine = let same = sym (ap (is_engine other) none) ∙ mine in cc
-    by (inr some) mine = let same = sym (ap (is_engine other) some) ∙ mine in cc
-only_instances f other differ start (Given origin c ∷ more) each e (zero, below, is) own =
-    let mine : same_engine other (origin_engine origin) ≡ true = ap (is_own other) is ∙ own in
-    let same = sym (ap (same_engine other) each.0.own) ∙ mine in
-    cc
-only_instances f other differ start (Learned c hints ∷ more) each e (zero, below, is) own =
-    let none : is_own other (Learned c hints) ≡ true = ap (is_own other) is ∙ own in cc
-only_instances f other differ start (Answer c hints ∷ more) each e (zero, below, is) own =
-    let none : is_own other (Answer c hints) ≡ true = ap (is_own other) is ∙ own in cc
+only_instances f other differ start (Named v n ∷ more) each e (zero, below, is) own = search arith
+only_instances f other differ start (Given origin c ∷ more) each e (zero, below, is) own = search arith
+only_instances f other differ start (Learned c hints ∷ more) each e (zero, below, is) own = search arith
+only_instances f other differ start (Answer c hints ∷ more) each e (zero, below, is) own = search arith
 only_instances f other differ start (Round row values j ∷ more) each e (zero, below, is) own = absurd each.0
 only_instances f other differ start (Begun live ∷ more) each e (zero, below, is) own = absurd each.0
 only_instances f other differ start (x ∷ more) each e (suc k, below, is) own =
@@ -138,11 +100,7 @@ only_instances f other differ start (x ∷ more) each e (suc k, below, is) own =
 pub first_has_none : (f : Dqbf) (other : Engine) → same_engine other instances ≡ false → (b : DatabaseState)
     (es : List Entry) → IsFirstDatabase f b es → HasNone other es
 first_has_none f other differ b es first e own has =
-    let grown : es ≡ first.alone.more ++ [] =
-    sym first.entries_are ∙ first.alone.grown ∙ ap (λ xs. first.alone.more ++ xs) first.empty in
-    only_instances f other differ first.before.entries first.alone.more
-    (subst (EachOf (IsAddedLive f instances [] true first.before.entries) first.alone.more) first.empty first.alone.each)
-    e (subst (λ xs. Contains xs e) grown has) own
+    search (arith, (only_instances f other differ first.before.entries first.alone.more))
 
 pub first_no_faults : (f : Dqbf) (b : DatabaseState) (es : List Entry) → IsFirstDatabase f b es → fault_groups es ≡ []
 first_no_faults f b es first =
@@ -156,12 +114,7 @@ no_groups_before (Named v n) es none = none
 no_groups_before (Given (Instance k j) c) es none = none
 no_groups_before (Given (Gate v i) c) es none = none
 no_groups_before (Given (Fault j i leaf) []) es none = none
-no_groups_before (Given (Fault j i leaf) (l ∷ c)) es none =
-    by (list_any (λ g. same_literal (negative g) l) (fault_groups es)) none
-  where
-    by : (x : Bool) → cond x (fault_groups es) (variable_of l ∷ fault_groups es) ≡ [] → fault_groups es ≡ []
-    by true h = h
-    by false h = cc
+no_groups_before (Given (Fault j i leaf) (l ∷ c)) es none = search arith
 no_groups_before (Given (Copy side j) c) es none = none
 no_groups_before (Given (Link v i) c) es none = none
 no_groups_before (Given (TermGate v i) c) es none = none
@@ -173,11 +126,7 @@ no_groups_before (Begun live) es none = none
 
 no_fault_given : (j i : ℕ) (leaf : _) (l : Literal) (c : List Literal) (es : List Entry) →
     fault_groups (Given (Fault j i leaf) (l ∷ c) ∷ es) ≡ [] → ⊥
-no_fault_given j i leaf l c es none =
-    let before = no_groups_before (Given (Fault j i leaf) (l ∷ c)) es none in
-    let same : fault_groups (Given (Fault j i leaf) (l ∷ c) ∷ es) ≡ variable_of l ∷ [] =
-    ap (λ gs. with_group (l ∷ c) gs) before in
-    cc
+no_fault_given j i leaf l c es none = search (arith, no_groups_before)
 
 not_nil : (xs : List (List Bool)) (x : List Bool) → xs ++ x ∷ [] ≡ [] → ⊥
 not_nil [] x is = cc
@@ -187,9 +136,7 @@ given_untried : (f : Dqbf) (es : List Entry) (origin : Origin) (c : List Literal
     fault_groups (Given origin c ∷ es) ≡ [] → MatchesOrigin f es (Given origin c) → IsOfSearch es (Given origin c)
 given_untried f es (Instance k j) c none is = tt
 given_untried f es (Gate v i) c none is = tt
-given_untried f es (Fault j i leaf) c none is =
-    absurd (no_fault_given j i leaf (negative is.group) is.rest es
-    (subst (λ d. fault_groups (Given (Fault j i leaf) d ∷ es) ≡ []) is.clause_is none))
+given_untried f es (Fault j i leaf) c none is = search (arith, no_fault_given)
 given_untried f es (Copy side j) c none is = tt
 given_untried f es (Link v i) c none is = tt
 given_untried f es (TermGate v i) c none is = tt
@@ -212,13 +159,11 @@ same_groups : (f : Dqbf) (b : DatabaseState) (es : List Entry) → IsFirstDataba
 same_groups f b es first = ap groups_of first.begun_is
 
 first_all : (f : Dqbf) (b : DatabaseState) (es : List Entry) → IsFirstDatabase f b es → all_of b ≡ f
-first_all f b es first =
-    ap all_of first.begun_is ∙ ap (with_matrix f) (append-nil f.matrix)
+first_all f b es first = search (arith, append-nil)
 
 first_frames : (f : Dqbf) (b : DatabaseState) (es : List Entry) → IsFirstDatabase f b es →
     frames_of b ≡ replicate (length f.matrix) 0
-first_frames f b es first =
-    ap frames_of first.begun_is ∙ append-nil (replicate (length f.matrix) 0)
+first_frames f b es first = search (arith, append-nil, replicate)
 
 contains_later : (x : Entry) (es : List Entry) (e : Entry) → Contains es e → Contains (x ∷ es) e
 contains_later x es e (k, below, is) = (suc k, omega (arith, below), is)
@@ -226,13 +171,7 @@ contains_later x es e (k, below, is) = (suc k, omega (arith, below), is)
 -- and what is left by the test is an element
 contains_unfiltered : (test : Entry → Bool) (es : List Entry) (e : Entry) → Contains (filter test es) e → Contains es e
 contains_unfiltered test [] e inside = inside
-contains_unfiltered test (x ∷ es) e inside = by_bit (test x) (contains_unfiltered test es e) inside
-  where
-    by_bit : (b : Bool) → (Contains (filter test es) e → Contains es e) →
-        Contains (cond b (x ∷ filter test es) (filter test es)) e → Contains (x ∷ es) e
-    by_bit true later (zero, below, is) = (zero, omega arith, is)
-    by_bit true later (suc k, below, is) = contains_later x es e (later (k, omega (arith, below), is))
-    by_bit false later there = contains_later x es e (later there)
+contains_unfiltered test (x ∷ es) e inside = search (arith, (contains_unfiltered test es e), contains_later)
 
 -- an engine of which the log has nothing gets nothing by another engine's call
 pub none_stays : EnginesLeaveRest → (which : Engine) (f : Dqbf) (engine : Engine) (group : ℕ) (silent : Bool)

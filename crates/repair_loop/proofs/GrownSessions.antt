@@ -1,6 +1,6 @@
 -- A session stays one where clauses are numbered behind all others: what the log says of clauses it
 -- says of those that were numbered before.
-use Rattle.std.proofs.Common.{◌≡◌, ℕ, zero, suc, ◌+◌, ◌-◌, ◌≤◌, false, List, [], ◌∷◌, ◌++◌, length, Option, None, Some, IsSome, refl, sym, ◌∙◌, ap, subst, arith}
+use Rattle.std.proofs.Common.{◌≡◌, ℕ, zero, suc, ◌+◌, ◌-◌, ◌≤◌, false, List, [], ◌∷◌, ◌++◌, length, Option, None, Some, IsSome, refl, sym, ◌∙◌, ap, arith}
 use Rattle.std.specs.List.{All, Contains, filter_map, cons_option}
 use Rattle.std.proofs.lemmas.List.{length-append, get_or_append_left}
 use Rattle.std.proofs.lemmas.List.Elements.{All-head, All-tail}
@@ -11,7 +11,7 @@ use Rattle.hint_log.specs.Growth.{Each}
 use Rattle.hint_log.specs.Live.{live_numbers, with_matrix, formula_by, live_formula, AreNumbers}
 use Rattle.hint_log.specs.Naming.{numbered_from_one}
 use Rattle.hint_log.specs.Origins.{IsRestOf, IsOriginsClause}
-use Rattle.hint_log.specs.ProductiveLog.{RefutesNewRow, FollowsModel, is_fault}
+use Rattle.hint_log.specs.ProductiveLog.{is_fault}
 use Rattle.hint_log.specs.ProductiveSession.{MatchesLiveOrigin, RefutesNewLiveRow, FollowsLiveModel, AreGroupedByFrames, IsProductiveSession, frame_of}
 use Rattle.hint_log.specs.declared.origins.Origin.{Origin}
 use Rattle.hint_log.specs.declared.origins.Origin.TheVariants.{Instance, Gate, Fault, Copy, Link, TermGate, Differ}
@@ -58,65 +58,31 @@ module _ (all : Dqbf) (more : List (List Literal)) where
 
   rest_stays : (earlier : List Entry) (group : ℕ) (origin : Origin) (rest : List Literal) → is_fault origin ≡ false →
       IsRestOf all earlier group origin rest → IsRestOf longer earlier group origin rest
-  rest_stays earlier group (Instance k j) rest other is = record {
-    row = is.row;
-    clause = is.clause;
-    row_is = is.row_is;
-    clause_is = numbered_more all.matrix more j is.clause is.clause_is;
-    open_row = is.open_row;
-    named = is.named;
-  }
+  rest_stays earlier group (Instance k j) rest other is = search (arith, numbered_more)
   rest_stays earlier group (Gate v i) rest other is = is
   rest_stays earlier group (Fault j i leaf) rest other is = cc
-  rest_stays earlier group (Copy side j) rest other is = (
-    is.0,
-    record {
-      clause = is.1.clause;
-      clause_is = numbered_more all.matrix more j is.1.clause is.1.clause_is;
-      named = is.1.named;
-    },
-  )
+  rest_stays earlier group (Copy side j) rest other is = search (arith, numbered_more)
   rest_stays earlier group (Link v i) rest other is = is
   rest_stays earlier group (TermGate v i) rest other is = is
-  rest_stays earlier group (Differ y leaf part) rest other is = (
-    is.0,
-    record {
-      copy = is.1.copy;
-      tail = is.1.tail;
-      is_existential = is.1.is_existential;
-      copy_is = is.1.copy_is;
-      leaf_is = is.1.leaf_is;
-      tail_is = is.1.tail_is;
-      rest_is = is.1.rest_is;
-    },
-  )
+  rest_stays earlier group (Differ y leaf part) rest other is = search arith
 
   no_leaf : (origin : Origin) (j i : ℕ) (leaf : _) → is_fault origin ≡ false → origin ≡ Fault j i leaf → ⊥
   no_leaf origin j i leaf other same = let is : is_fault origin ≡ is_fault (Fault j i leaf) = ap is_fault same in cc
 
   origin_stays : (earlier : List Entry) (origin : Origin) (c : List Literal) → is_fault origin ≡ false →
       IsOriginsClause all earlier origin c → IsOriginsClause longer earlier origin c
-  origin_stays earlier origin c other is = record {
-    group = is.group;
-    rest = is.rest;
-    clause_is = is.clause_is;
-    is_group = is.is_group;
-    rest_is = rest_stays earlier is.group origin is.rest other is.rest_is;
-    one_leaf = λ v j i j' i' leaf leaf' rest' same there mine yours. absurd (no_leaf origin j i leaf other same);
-  }
+  origin_stays earlier origin c other is = search (arith, rest_stays, no_leaf)
 
   given_stays : (earlier : List Entry) (origin : Origin) (c : List Literal) → Each (MatchesLiveOrigin all) earlier →
       IsOfSearch earlier (Given origin c) → MatchesLiveOrigin all earlier (Given origin c) →
       MatchesLiveOrigin longer earlier (Given origin c)
   given_stays earlier (Instance k j) c before tried is = origin_stays earlier (Instance k j) c refl is
   given_stays earlier (Gate v i) c before tried is = origin_stays earlier (Gate v i) c refl is
-  given_stays earlier (Fault j i leaf) c before tried is =
-      subst (λ f. IsOriginsClause f earlier (Fault j i leaf) c) (sym (same_formula earlier before tried)) is
+  given_stays earlier (Fault j i leaf) c before tried is = search (arith, same_formula)
   given_stays earlier (Copy side j) c before tried is = origin_stays earlier (Copy side j) c refl is
   given_stays earlier (Link v i) c before tried is = origin_stays earlier (Link v i) c refl is
   given_stays earlier (TermGate v i) c before tried is = origin_stays earlier (TermGate v i) c refl is
-  given_stays earlier (Differ y leaf part) c before tried is =
-      origin_stays earlier (Differ y leaf part) c refl is
+  given_stays earlier (Differ y leaf part) c before tried is = search (arith, origin_stays)
 
   numbers_stay : (live : List ℕ) → AreNumbers all live → AreNumbers longer live
   numbers_stay live are = record {
@@ -129,8 +95,7 @@ module _ (all : Dqbf) (more : List (List Literal)) where
       Each (MatchesLiveOrigin longer) es
   origins_stay [] tried given = tt
   origins_stay (Named v n ∷ es) tried given = (given.0, origins_stay es tried.1 given.1)
-  origins_stay (Given origin c ∷ es) tried given =
-      (given_stays es origin c given.1 tried.0 given.0, origins_stay es tried.1 given.1)
+  origins_stay (Given origin c ∷ es) tried given = search (arith, given_stays, (origins_stay es tried.1 given.1))
   origins_stay (Learned c hints ∷ es) tried given = (tt, origins_stay es tried.1 given.1)
   origins_stay (Answer c hints ∷ es) tried given = (tt, origins_stay es tried.1 given.1)
   origins_stay (Round row values j ∷ es) tried given = (tt, origins_stay es tried.1 given.1)
@@ -143,10 +108,8 @@ module _ (all : Dqbf) (more : List (List Literal)) where
   rows_stay (Given origin c ∷ es) tried given rows = (tt, rows_stay es tried.1 given.1 rows.1)
   rows_stay (Learned c hints ∷ es) tried given rows = (tt, rows_stay es tried.1 given.1 rows.1)
   rows_stay (Answer c hints ∷ es) tried given rows = (tt, rows_stay es tried.1 given.1 rows.1)
-  rows_stay (Round row values j ∷ es) tried given rows = (
-    subst (λ f. RefutesNewRow f es (Round row values j)) (sym (same_formula es given.1 tried.0)) rows.0,
-    rows_stay es tried.1 given.1 rows.1,
-  )
+  rows_stay (Round row values j ∷ es) tried given rows =
+      search (arith, same_formula, (rows_stay es tried.1 given.1 rows.1))
   rows_stay (Begun live ∷ es) tried given rows = (tt, rows_stay es tried.1 given.1 rows.1)
 
   models_stay : (es : List Entry) → Each IsOfSearch es → Each (MatchesLiveOrigin all) es →
@@ -156,10 +119,8 @@ module _ (all : Dqbf) (more : List (List Literal)) where
   models_stay (Given origin c ∷ es) tried given models = (tt, models_stay es tried.1 given.1 models.1)
   models_stay (Learned c hints ∷ es) tried given models = (tt, models_stay es tried.1 given.1 models.1)
   models_stay (Answer c hints ∷ es) tried given models = (tt, models_stay es tried.1 given.1 models.1)
-  models_stay (Round row values j ∷ es) tried given models = (
-    subst (λ f. FollowsModel f es (Round row values j)) (sym (same_formula es given.1 tried.0)) models.0,
-    models_stay es tried.1 given.1 models.1,
-  )
+  models_stay (Round row values j ∷ es) tried given models =
+      search (arith, same_formula, (models_stay es tried.1 given.1 models.1))
   models_stay (Begun live ∷ es) tried given models = (tt, models_stay es tried.1 given.1 models.1)
 
   module _ (frames added : List ℕ) (many : length frames ≡ length all.matrix) (es : List Entry)
@@ -200,12 +161,4 @@ module _ (all : Dqbf) (more : List (List Literal)) where
 
   pub session_grows : (frames added : List ℕ) → length frames ≡ length all.matrix → (es : List Entry) →
       Each IsOfSearch es → IsProductiveSession all frames es → IsProductiveSession longer (frames ++ added) es
-  session_grows frames added many es tried s = record {
-    givens_match_origins = origins_stay es tried s.givens_match_origins;
-    lemmas_are_derived = s.lemmas_are_derived;
-    lemmas_are_new = s.lemmas_are_new;
-    rounds_refute_new_rows = rows_stay es tried s.givens_match_origins s.rounds_refute_new_rows;
-    rounds_follow_a_model = models_stay es tried s.givens_match_origins s.rounds_follow_a_model;
-    givens_are_not_repeated = s.givens_are_not_repeated;
-    groups_are_frames = groups_stay frames added many es s.givens_match_origins s.groups_are_frames;
-  }
+  session_grows frames added many es tried s = search (arith, origins_stay, rows_stay, models_stay, groups_stay)

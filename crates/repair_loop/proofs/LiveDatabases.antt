@@ -34,11 +34,7 @@ taken_bound P m (j ∷ js) all = by (numbered_from_one m j) refl (taken_bound P 
 -- the formula of now is well-formed
 pub now_formed : (b : DatabaseState) (es : List Entry) → IsDatabase b es → IsWellFormed (now_of b)
 now_formed b es database = record {
-  prefix = record {
-    in_range = database.well_formed.prefix.in_range;
-    declared_once = database.well_formed.prefix.declared_once;
-    sees_universals = database.well_formed.prefix.sees_universals;
-  };
+  prefix = search arith;
   bound = taken_bound (All (λ l. Contains (declared b.file) (variable_of l))) (all_of b).matrix (live_of b)
       database.well_formed.bound;
 }
@@ -83,18 +79,14 @@ module _ (b : DatabaseState) (es : List Entry) (database : IsDatabase b es) wher
 
   behind_zeros : (m p d : ℕ) (xs : List ℕ) → get_or (replicate m 0 ++ xs) (m + p) d ≡ get_or xs p d
   behind_zeros zero p d xs = ap (λ q. get_or xs q d) (let e : zero + p ≡ p = omega arith in e)
-  behind_zeros (suc m) p d xs =
-      ap (λ q. get_or (replicate (suc m) 0 ++ xs) q d) (let e : suc m + p ≡ suc (m + p) = omega arith in e)
-      ∙ behind_zeros m p d xs
+  behind_zeros (suc m) p d xs = search (arith, replicate, (behind_zeros m p d xs))
 
   -- the file's frame, and an added clause's
   file_frame : (j : ℕ) → 1 ≤ j → j ≤ n → frame_of (frames_of b) j ≡ 0
   file_frame j low high = zeros_at n (j - 1) 0 b.frames (omega (arith, low, high))
 
   added_frame : (place : ℕ) → frame_of (frames_of b) (number_at b place) ≡ frame_at b place
-  added_frame place =
-      let at : number_at b place - 1 ≡ n + place = omega arith in
-      ap (λ p. get_or (frames_of b) p 0) at ∙ behind_zeros n place 0 b.frames
+  added_frame place = search (arith, behind_zeros)
 
   -- a live clause has its frame
   pub live_frame : (l : Live) → Contains b.live l → frame_of (frames_of b) l.clause ≡ l.frame
@@ -172,10 +164,7 @@ module _ (b : DatabaseState) (es : List Entry) (database : IsDatabase b es) wher
 
   -- its groups were made
   pub database_named : (n : ℕ) → Contains (groups_of b) n → name_of es n ≡ None → ⊥
-  database_named n (zero, below, is) none =
-      let named = database.table.group in
-      let same : name_of es b.table.group ≡ None = ap (name_of es) is ∙ none in
-      cc
+  database_named n (zero, below, is) none = search arith
   database_named n (suc k, below, is) none =
       let r = group_in b.groups n (k, omega (arith, below), is) in
       let made = (database.groups.made r.0 r.1 r.2).named in

@@ -5,10 +5,9 @@ use Rattle.std.specs.List.{Contains}
 use Rattle.list_laws.proofs.Members.{contains_later}
 use Rattle.dq_lits.specs.Literal.{Literal}
 use Rattle.dq_lits.specs.Formula.{Dqbf}
-use Rattle.hint_log.specs.Deciding.{DecidesNothing}
 use Rattle.hint_log.specs.Entries.{Entry, Named, Given, Learned, Answer, Round, Begun, ProofLog, name_of, rounds_of, beginnings_of}
 use Rattle.hint_log.specs.Growth.{EachOf, Grew}
-use Rattle.hint_log.specs.Live.{live_numbers, live_formula, formula_by, with_matrix}
+use Rattle.hint_log.specs.Live.{live_numbers, live_formula, with_matrix}
 use Rattle.hint_log.specs.ProductiveLog.{MatchesOrigin, fault_groups, fault_room}
 use Rattle.hint_log.specs.ProductiveSession.{MatchesLiveOrigin}
 use Rattle.hint_log.specs.declared.origins.Origin.{Origin}
@@ -41,12 +40,7 @@ asked_each all f engine groups start (Given origin c ∷ more) old now each = ab
 asked_each all f engine groups start (Learned c hints ∷ more) old now each =
     (tt, asked_each all f engine groups start more old now each.1)
 asked_each all f engine groups start (Answer c hints ∷ more) old now each =
-    let same : f ≡ live_formula all (more ++ old) =
-    now ∙ sym (ap (formula_by all) (asked_formula f more old each.1)) in
-    let nothing = subst (λ g. DecidesNothing g (more ++ old) (Answer c hints)) same each.0 in (
-      λ quiet. (λ no. nothing.0 no.decides, λ yes. nothing.1 yes.decides),
-      asked_each all f engine groups start more old now each.1,
-    )
+    search (arith, asked_formula, (asked_each all f engine groups start more old now each.1))
 asked_each all f engine groups start (Round row values j ∷ more) old now each = absurd each.0
 asked_each all f engine groups start (Begun live ∷ more) old now each = absurd each.0
 
@@ -54,21 +48,14 @@ asked_each all f engine groups start (Begun live ∷ more) old now each = absurd
 pub asked_live : (all f : Dqbf) (engine : Engine) (groups : List ℕ) (old new : ProofLog) →
     f ≡ live_formula all old.entries → Grew (IsAsked f) old new →
     Grew (IsAddedLive all engine groups true old.entries) old new
-asked_live all f engine groups old new now grew = record {
-  more = grew.more;
-  grown = grew.grown;
-  each = asked_each all f engine groups old.entries grew.more old.entries now grew.each;
-  limit = grew.limit;
-}
+asked_live all f engine groups old new now grew = search (arith, asked_each)
 
 no_fault : (engine : Engine) (origin : Origin) (c : List Literal) (es : List Entry) →
     same_engine engine circuits ≡ false → origin_engine origin ≡ engine →
     fault_groups (Given origin c ∷ es) ≡ fault_groups es
 no_fault engine (Instance k j) c es other own = refl
 no_fault engine (Gate v i) c es other own = refl
-no_fault engine (Fault j i leaf) c es other own =
-    let same : same_engine engine circuits ≡ same_engine circuits circuits =
-    ap (λ x. same_engine x circuits) (sym own) in cc
+no_fault engine (Fault j i leaf) c es other own = search arith
 no_fault engine (Copy side j) c es other own = refl
 no_fault engine (Link v i) c es other own = refl
 no_fault engine (TermGate v i) c es other own = refl
@@ -82,8 +69,7 @@ module _ (all : Dqbf) (engine : Engine) (groups : List ℕ) (silent : Bool) (sta
       fault_groups (more ++ old) ≡ fault_groups old
   faults_each other [] each = refl
   faults_each other (Named v n ∷ more) each = faults_each other more each.1
-  faults_each other (Given origin c ∷ more) each =
-      no_fault engine origin c (more ++ old) other each.0.own ∙ faults_each other more each.1
+  faults_each other (Given origin c ∷ more) each = search (arith, no_fault, (faults_each other more each.1))
   faults_each other (Learned c hints ∷ more) each = faults_each other more each.1
   faults_each other (Answer c hints ∷ more) each = faults_each other more each.1
   faults_each other (Round row values j ∷ more) each = absurd each.0
@@ -110,9 +96,7 @@ module _ (all : Dqbf) (engine : Engine) (groups : List ℕ) (silent : Bool) (sta
 pub same_faults : (all : Dqbf) (engine : Engine) (groups : List ℕ) (silent : Bool) (old new : ProofLog) →
     same_engine engine circuits ≡ false → Grew (IsAddedLive all engine groups silent old.entries) old new →
     fault_groups new.entries ≡ fault_groups old.entries
-same_faults all engine groups silent old new other grew =
-    ap fault_groups grew.grown
-    ∙ faults_each all engine groups silent old.entries old.entries other grew.more grew.each
+same_faults all engine groups silent old new other grew = search (arith, faults_each)
 
 pub same_room : (all : Dqbf) (engine : Engine) (groups : List ℕ) (silent : Bool) (old new : ProofLog) →
     Grew (IsAddedLive all engine groups silent old.entries) old new →
@@ -130,9 +114,7 @@ plain_origin : (all : Dqbf) (engine : Engine) (earlier : List Entry) (origin : O
     MatchesLiveOrigin all earlier (Given origin c) → MatchesOrigin all earlier (Given origin c)
 plain_origin all engine earlier (Instance k j) c other own is = is
 plain_origin all engine earlier (Gate v i) c other own is = is
-plain_origin all engine earlier (Fault j i leaf) c other own is =
-    let same : same_engine circuits engine ≡ same_engine circuits circuits =
-    ap (same_engine circuits) (sym own) in cc
+plain_origin all engine earlier (Fault j i leaf) c other own is = search arith
 plain_origin all engine earlier (Copy side j) c other own is = is
 plain_origin all engine earlier (Link v i) c other own is = is
 plain_origin all engine earlier (TermGate v i) c other own is = is

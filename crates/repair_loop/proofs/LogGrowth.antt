@@ -1,7 +1,7 @@
 -- How a log grows by calls of a search: no search begins, no step is lost.
-use Rattle.std.proofs.Common.{◌≡◌, ◌+◌, ◌-◌, ◌≤◌, ◌<◌, ℕ, Bool, true, false, cond, List, [], ◌∷◌, ◌++◌, refl, sym, ◌∙◌, ap, subst, arith, append_assoc, length, IsSome}
+use Rattle.std.proofs.Common.{◌≡◌, ◌+◌, ◌-◌, ◌≤◌, ◌<◌, ℕ, Bool, true, false, cond, List, [], ◌∷◌, ◌++◌, refl, sym, ◌∙◌, ap, arith, append_assoc, IsSome}
 use Rattle.dq_lits.specs.Formula.{Dqbf}
-use Rattle.hint_log.specs.Entries.{Entry, Named, Given, Learned, Answer, Round, Begun, ProofLog, with_entry, steps_of, beginnings_of, is_beginning, is_counted}
+use Rattle.hint_log.specs.Entries.{Entry, Named, Given, Learned, Answer, Round, Begun, ProofLog, with_entry, steps_of, beginnings_of, is_beginning}
 use Rattle.hint_log.specs.Growth.{EachOf, Grew}
 use Rattle.hint_log.specs.Live.{live_numbers, before_beginning}
 use Rattle.std.proofs.lemmas.List.{length-append}
@@ -37,25 +37,10 @@ none_begun all engine groups silent start (Begun live ∷ more) old each = absur
 
 pub log_grew : (all : Dqbf) (engine : Engine) (groups : List ℕ) (silent : Bool) (start : List Entry)
     (old new : ProofLog) → Grew (IsAddedLive all engine groups silent start) old new → LogGrew old new
-log_grew all engine groups silent start old new grew = record {
-  more = grew.more;
-  grown = grew.grown;
-  none = none_begun all engine groups silent start grew.more old.entries grew.each;
-  steps = subst (λ es. steps_of old.entries ≤ steps_of es) (sym grew.grown)
-      (count_grown is_counted grew.more old.entries);
-  limit = grew.limit;
-}
+log_grew all engine groups silent start old new grew = search (arith, none_begun, count_grown)
 
 pub log_same : (old new : ProofLog) → new ≡ old → LogGrew old new
-log_same old new is =
-    let steps = ap (λ (l : ProofLog). steps_of l.entries) is in
-    record {
-      more = [];
-      grown = ap (λ (l : ProofLog). l.entries) is;
-      none = refl;
-      steps = omega (arith, steps);
-      limit = ap (λ (l : ProofLog). l.limit) is;
-    }
+log_same old new is = search arith
 
 pub log_then : (a b c : ProofLog) → LogGrew a b → LogGrew b c → LogGrew a c
 log_then a b c one two =
@@ -94,9 +79,7 @@ steps_left log within not_full = omega (arith, within, not_full)
 pub fewer_left : (a b c d : ProofLog) → LogGrew a b → LogGrew c d → LogGrew b c →
     steps_of b.entries < steps_of c.entries → steps_of b.entries < b.limit
     → d.limit - steps_of d.entries < a.limit - steps_of a.entries
-fewer_left a b c d one three two more left =
-    let s = one.steps in let l = one.limit in let t = three.steps in let m = three.limit in let k = two.limit in
-    omega (arith, s, l, t, m, k, more, left)
+fewer_left a b c d one three two more left = search arith
 
 -- behind a beginning some clauses are live
 pub some_live : (more : List Entry) (live : List ℕ) (old : List Entry) →
@@ -130,8 +113,7 @@ same_before (Round row values j ∷ more) old none = same_before more old none
 same_before (Begun live ∷ more) old none = absurd (omega (arith, none))
 
 pub begun_before : (live : List ℕ) (old new : List Entry) → HasBegun live old new → before_beginning new ≡ old
-begun_before live old new begun =
-    ap before_beginning begun.grown ∙ same_before begun.more (Begun live ∷ old) begun.none
+begun_before live old new begun = search (arith, same_before)
 
 -- a search that began goes on
 pub begun_on : (live : List ℕ) (old mid new : ProofLog) → HasBegun live old.entries mid.entries → LogGrew mid new →
@@ -146,13 +128,7 @@ begun_on live old mid new begun grew = record {
 
 -- a log that began a search isn't the one before
 pub not_begun : (live : List ℕ) (old new : List Entry) → new ≡ old → HasBegun live old new → ⊥
-not_begun live old new same begun =
-    let long = ap length (sym same ∙ begun.grown) in
-    let parts = length-append begun.more (Begun live ∷ old) in
-    omega (arith, long, parts)
+not_begun live old new same begun = search (arith, (length-append begun.more))
 
 pub some_begun : (live : List ℕ) (old new : List Entry) → HasBegun live old new → 1 ≤ beginnings_of new
-some_begun live old new begun =
-    let more = subst (λ es. beginnings_of (Begun live ∷ old) ≤ beginnings_of es) (sym begun.grown)
-    (count_grown is_beginning begun.more (Begun live ∷ old)) in
-    omega (arith, more)
+some_begun live old new begun = search (arith, count_grown)

@@ -1,5 +1,5 @@
 -- The faults of a search stand in groups that it made.
-use Rattle.std.proofs.Common.{◌≡◌, ◌⊎◌, inl, inr, ℕ, zero, suc, Bool, false, List, [], ◌∷◌, ◌++◌, None, sym, ◌∙◌, ap, subst, arith}
+use Rattle.std.proofs.Common.{◌≡◌, ◌⊎◌, ℕ, Bool, false, List, [], ◌∷◌, ◌++◌, None, arith}
 use Rattle.std.specs.List.{Contains}
 use Rattle.dq_lits.specs.Formula.{Dqbf}
 use Rattle.dq_lits.specs.Literal.{Literal}
@@ -21,9 +21,7 @@ other_given : (before earlier : List Entry) (engine : Engine) (origin : Origin) 
     AreFaultsNew before (Given origin c ∷ earlier)
 other_given before earlier engine (Instance k j) c other own new = new
 other_given before earlier engine (Gate v i) c other own new = new
-other_given before earlier engine (Fault j i leaf) c other own new =
-    let same : same_engine engine circuits ≡ same_engine circuits circuits =
-    ap (λ x. same_engine x circuits) (sym own) in cc
+other_given before earlier engine (Fault j i leaf) c other own new = search arith
 other_given before earlier engine (Copy side j) c other own new = new
 other_given before earlier engine (Link v i) c other own new = new
 other_given before earlier engine (TermGate v i) c other own new = new
@@ -37,8 +35,7 @@ others_each before all engine groups silent start [] old other each new = new
 others_each before all engine groups silent start (Named v n ∷ more) old other each new =
     others_each before all engine groups silent start more old other each.1 new
 others_each before all engine groups silent start (Given origin c ∷ more) old other each new =
-    other_given before (more ++ old) engine origin c other each.0.own
-    (others_each before all engine groups silent start more old other each.1 new)
+    search (arith, other_given, (others_each before all engine groups silent start more old other each.1 new))
 others_each before all engine groups silent start (Learned c hints ∷ more) old other each new =
     others_each before all engine groups silent start more old other each.1 new
 others_each before all engine groups silent start (Answer c hints ∷ more) old other each new =
@@ -50,11 +47,7 @@ pub others_new : (all : Dqbf) (engine : Engine) (groups : List ℕ) (silent : Bo
     same_engine engine circuits ≡ false → Grew (IsAddedLive all engine groups silent old.entries) old new →
     before_beginning new.entries ≡ before_beginning old.entries →
     AreFaultsNew (before_beginning old.entries) old.entries → AreFaultsNew (before_beginning new.entries) new.entries
-others_new all engine groups silent old new other grew same before =
-    subst (λ b. AreFaultsNew b new.entries) (sym same)
-    (subst (AreFaultsNew (before_beginning old.entries)) (sym grew.grown)
-    (others_each (before_beginning old.entries) all engine groups silent old.entries grew.more old.entries other
-    grew.each before))
+others_new all engine groups silent old new other grew same before = search (arith, others_each)
 
 -- the gates' group has no faults
 turn_given : (before start earlier : List Entry) (gates : ℕ) (origin : Origin) (c : List Literal) →
@@ -65,13 +58,7 @@ turn_given : (before start earlier : List Entry) (gates : ℕ) (origin : Origin)
 turn_given before start earlier gates (Instance k j) c older placed own new = new
 turn_given before start earlier gates (Gate v i) c older placed own new = new
 turn_given before start earlier gates (Fault j i leaf) c older (g, inside, place) own new =
-    (λ group here. by group here place, new)
-  where
-    by : (group : ℕ) → IsInGroup group c → Contains (gates ∷ []) g ⊎ (name_of start g ≡ None) →
-        name_of before group ≡ None
-    by group here (inl (zero, below, is)) = absurd (own (subst (λ n. IsInGroup n c) (sym is) inside))
-    by group here (inl (suc k, below, is)) = absurd (omega (arith, below))
-    by group here (inr none) = older group (ap (name_of start) (in_one_group group g c here inside) ∙ none)
+    search (arith, in_one_group)
 turn_given before start earlier gates (Copy side j) c older placed own new = new
 turn_given before start earlier gates (Link v i) c older placed own new = new
 turn_given before start earlier gates (TermGate v i) c older placed own new = new
@@ -85,8 +72,7 @@ turns_each before all gates silent start [] old older each own new = new
 turns_each before all gates silent start (Named v n ∷ more) old older each own new =
     turns_each before all gates silent start more old older each.1 own.1 new
 turns_each before all gates silent start (Given origin c ∷ more) old older each own new =
-    turn_given before start (more ++ old) gates origin c older each.0.in_group own.0
-    (turns_each before all gates silent start more old older each.1 own.1 new)
+    search (arith, turn_given, (turns_each before all gates silent start more old older each.1 own.1 new))
 turns_each before all gates silent start (Learned c hints ∷ more) old older each own new =
     turns_each before all gates silent start more old older each.1 own.1 new
 turns_each before all gates silent start (Answer c hints ∷ more) old older each own new =
@@ -98,8 +84,4 @@ pub turns_new : (all : Dqbf) (gates : ℕ) (silent : Bool) (old new : ProofLog) 
     Grew (IsAddedLive all circuits (gates ∷ []) silent old.entries) old new →
     before_beginning new.entries ≡ before_beginning old.entries → Each (IsGateGiven gates) new.entries →
     AreFaultsNew (before_beginning old.entries) old.entries → AreFaultsNew (before_beginning new.entries) new.entries
-turns_new all gates silent old new grew same own before =
-    subst (λ b. AreFaultsNew b new.entries) (sym same)
-    (subst (AreFaultsNew (before_beginning old.entries)) (sym grew.grown)
-    (turns_each (before_beginning old.entries) all gates silent old.entries grew.more old.entries
-    (unnamed_since old.entries) grew.each (subst (Each (IsGateGiven gates)) grew.grown own) before))
+turns_new all gates silent old new grew same own before = search (arith, turns_each, unnamed_since)

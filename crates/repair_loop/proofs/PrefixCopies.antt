@@ -1,9 +1,9 @@
 -- What an engine adds for a formula's prefix, without its clauses, it adds for the formula.
-use Rattle.std.proofs.Common.{◌≡◌, ℕ, zero, suc, true, Result, Ok, Err, List, [], ◌∷◌, ◌++◌, length, replicate, Some, refl, sym, ◌∙◌, ap, arith}
+use Rattle.std.proofs.Common.{◌≡◌, ℕ, zero, suc, true, List, [], ◌∷◌, length, replicate, Some, refl, sym, ◌∙◌, ap, arith}
 use Rattle.std.specs.Option.{option_map}
 use Rattle.dq_lits.specs.Literal.{Literal, variable_of}
 use Rattle.dq_lits.specs.Formula.{Dqbf, IsWellFormed}
-use Rattle.hint_log.specs.Deciding.{DecidesNothing, DecidesTrue, IsFaultLeaf}
+use Rattle.hint_log.specs.Deciding.{DecidesNothing, IsFaultLeaf}
 use Rattle.hint_log.specs.Entries.{Entry, Named, Given, Learned, Answer, Round, Begun, ProofLog}
 use Rattle.hint_log.specs.Growth.{EachOf, Grew}
 use Rattle.hint_log.specs.Naming.{numbered_from_one}
@@ -20,14 +20,7 @@ use Rattle.definability.specs.Store.{IsCopyStore}
 use Rattle.definability.specs.declared.definability.Definability.{Definability}
 
 pub prefix_formed : (f : Dqbf) → IsWellFormed f → IsWellFormed (record f { matrix = [] })
-prefix_formed f formed = record {
-  prefix = record {
-    in_range = formed.prefix.in_range;
-    declared_once = formed.prefix.declared_once;
-    sees_universals = formed.prefix.sees_universals;
-  };
-  bound = λ k d below. absurd (omega (arith, below));
-}
+prefix_formed f formed = search arith
 
 no_clause : (j : ℕ) (c : List Literal) → numbered_from_one {X = List Literal} [] j ≡ Some c → ⊥
 no_clause zero c is = cc
@@ -58,78 +51,37 @@ module _ (f : Dqbf) where
   rest_there es group (Copy side j) rest own is = absurd (no_clause j is.1.clause is.1.clause_is)
   rest_there es group (Link v i) rest own is = is
   rest_there es group (TermGate v i) rest own is = is
-  rest_there es group (Differ y leaf part) rest own is = (
-    is.0,
-    record {
-      copy = is.1.copy;
-      tail = is.1.tail;
-      is_existential = is.1.is_existential;
-      copy_is = is.1.copy_is;
-      leaf_is = is.1.leaf_is;
-      tail_is = is.1.tail_is;
-      rest_is = is.1.rest_is;
-    },
-  )
+  rest_there es group (Differ y leaf part) rest own is = search arith
 
   no_fault : (origin : Origin) (j i : ℕ) (leaf : Leaf) → origin_engine origin ≡ copies → origin ≡ Fault j i leaf → ⊥
   no_fault origin j i leaf own is = let other = sym (ap origin_engine is) ∙ own in cc
 
   clause_there : (es : List Entry) (origin : Origin) (c : List Literal) → origin_engine origin ≡ copies →
       IsOriginsClause bare es origin c → IsOriginsClause f es origin c
-  clause_there es origin c own is = record {
-    group = is.group;
-    rest = is.rest;
-    clause_is = is.clause_is;
-    is_group = is.is_group;
-    rest_is = rest_there es is.group origin is.rest own is.rest_is;
-    one_leaf = λ v j i j' i' leaf leaf' rest' fault inside one two. absurd (no_fault origin j i leaf own fault);
-  }
+  clause_there es origin c own is = search (arith, rest_there, no_fault)
 
   no_leaf : (es : List Entry) (hints : List ℕ) (y : _) (leaf : Leaf) → IsFaultLeaf bare es hints y leaf → ⊥
   no_leaf es hints y leaf is = no_literal f is.j is.i y.variable is.own
 
   nothing_there : (es : List Entry) (c : List Literal) (hints : List ℕ) →
       DecidesNothing bare es (Answer c hints) → DecidesNothing f es (Answer c hints)
-  nothing_there es c hints nothing = (
-    nothing.0,
-    λ (yes : DecidesTrue f es c hints). nothing.1 (record {
-      rests = yes.rests;
-      reads = λ k d below leaf is x reads. absurd (no_leaf es hints _ leaf is);
-    }),
-  )
+  nothing_there es c hints nothing = search (arith, no_leaf)
 
   each_there : (group : ℕ) (start more old : List Entry) → EachOf (IsAddedBy bare copies group true start) more old →
       EachOf (IsAddedBy f copies group true start) more old
   each_there group start [] old each = tt
-  each_there group start (Named v n ∷ more) old each = (
-    record { unnamed = each.0.unnamed; own = each.0.own; rightly = named_rightly n each.0.rightly },
-    each_there group start more old each.1,
-  )
-  each_there group start (Given origin c ∷ more) old each = (
-    record {
-      own = each.0.own;
-      in_group = each.0.in_group;
-      matches_origin = clause_there (more ++ old) origin c each.0.own each.0.matches_origin;
-      not_repeated = each.0.not_repeated;
-    },
-    each_there group start more old each.1,
-  )
+  each_there group start (Named v n ∷ more) old each =
+      search (arith, named_rightly, (each_there group start more old each.1))
+  each_there group start (Given origin c ∷ more) old each =
+      search (arith, clause_there, (each_there group start more old each.1))
   each_there group start (Learned c hints ∷ more) old each = (tt, each_there group start more old each.1)
-  each_there group start (Answer c hints ∷ more) old each = (
-    λ quiet. nothing_there (more ++ old) c hints (each.0 quiet),
-    each_there group start more old each.1,
-  )
+  each_there group start (Answer c hints ∷ more) old each = search (arith, (each_there group start more old each.1))
   each_there group start (Round row values j ∷ more) old each = absurd each.0
   each_there group start (Begun live ∷ more) old each = absurd each.0
 
   pub added_there : (group : ℕ) (old new : ProofLog) → Grew (IsAddedBy bare copies group true old.entries) old new →
       Grew (IsAddedBy f copies group true old.entries) old new
-  added_there group old new grew = record {
-    more = grew.more;
-    grown = grew.grown;
-    each = each_there group old.entries grew.more old.entries grew.each;
-    limit = grew.limit;
-  }
+  added_there group old new grew = search (arith, each_there)
 
   -- and all its clauses are to come
   pub store_there : ClausesLeaveStores → (p : Definability) (es : List Entry) → IsCopyStore bare [] p es →

@@ -43,34 +43,12 @@ frames_open law b d graph entries r =
     }
 
 pub frames_close : ClosedFramesLeaveDatabases → FramesClose
-frames_close law b d graph entries some r = record {
-  database = record { database = law b entries some r.database.database; rows = r.database.rows };
-  search_state = record {
-    checked = r.search_state.checked;
-    stored = r.search_state.stored;
-    apart = record {
-      gates = r.search_state.apart.gates;
-      copies = r.search_state.apart.copies;
-      copies_gates = r.search_state.apart.copies_gates;
-    };
-    named = r.search_state.named;
-  };
-  session = r.session;
-  searched = r.searched;
-  faults = r.faults;
-  inputs = r.inputs;
-}
+frames_close law b d graph entries some r = search arith
 
 -- each clause that was numbered has its frame
 pub as_many_frames : (b : DatabaseState) (entries : List Entry) → IsDatabase b entries →
     length (frames_of b) ≡ length (all_of b).matrix
-as_many_frames b entries database =
-    let zeros : List ℕ = replicate (length b.file.matrix) 0 in
-    let left = length-append zeros b.frames in
-    let right = length-append b.file.matrix b.added in
-    let none = length-replicate {A = ℕ} (length b.file.matrix) 0 in
-    let same = database.stack.many_frames in
-    omega (arith, left, right, none, same)
+as_many_frames b entries database = search (arith, replicate, length-append, length-replicate)
 
 pub clauses_come : ClausesLeaveDatabases → ClausesLeaveStores → ClausesCome
 clauses_come law stores b d graph entries clause some bound r =

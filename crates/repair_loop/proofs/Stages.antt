@@ -4,11 +4,11 @@ use Rattle.std.specs.List.{Contains}
 use Rattle.list_laws.proofs.Members.{only_one}
 use Rattle.dq_lits.specs.Formula.{Dqbf}
 use Rattle.dq_lits.specs.Literal.{Literal, negative, variable_of}
-use Rattle.hint_log.specs.Entries.{Entry, Given, Round, ProofLog}
+use Rattle.hint_log.specs.Entries.{Entry, Given, ProofLog}
 use Rattle.hint_log.specs.Growth.{Each, Grew}
 use Rattle.hint_log.specs.Live.{formula_by, live_formula}
 use Rattle.hint_log.specs.Naming.{rows_of}
-use Rattle.hint_log.specs.ProductiveLog.{RefutesNewRow, FollowsModel, IsNewFailure, HasModelWith}
+use Rattle.hint_log.specs.ProductiveLog.{IsNewFailure, HasModelWith}
 use Rattle.hint_log.specs.ProductiveSession.{frame_of}
 use Rattle.hint_log.specs.declared.origins.Origin.TheVariants.{Instance}
 use Rattle.log_laws.specs.Engines.{Engine, circuits, instances, copies, IsAddedBy}
@@ -42,12 +42,7 @@ pub same_database : (b : DatabaseState) → IsDatabaseAfter b b
 same_database b = record { same = refl; many_groups = refl }
 
 pub database_then : (a b c : DatabaseState) → IsDatabaseAfter a b → IsDatabaseAfter b c → IsDatabaseAfter a c
-database_then a b c one two = record {
-  same =
-      two.same
-      ∙ ap (λ (x : DatabaseState). record x { table = c.table; given = c.given; groups = c.groups }) one.same;
-  many_groups = two.many_groups ∙ one.many_groups;
-}
+database_then a b c one two = search arith
 
 pub still_kept : EnginesLeaveSessions → (all : Dqbf) (engine : Engine) (groups : List ℕ) (silent : Bool)
     (old new : ProofLog) → Grew (IsAddedLive all engine groups silent old.entries) old new → IsKept all old.entries →
@@ -228,12 +223,7 @@ failure_round refute databases checkers copies_stay stores f b c p ready entries
           formula = well;
           now_is = way.now_is;
           live = way.live;
-          kept = record {
-            origins = (tt, way.kept.origins);
-            new_rows = (subst (λ g. RefutesNewRow g entries (Round row values j)) now new, way.kept.new_rows);
-            models = (subst (λ g. FollowsModel g entries (Round row values j)) now model, way.kept.models);
-            givens = (tt, way.kept.givens);
-          };
+          kept = search arith;
           database = left.0;
           checked = checkers b.file c entries row values j way.checked;
           copied = λ on. copies_stay f p entries row values j (way.copied on);

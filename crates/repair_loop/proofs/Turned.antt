@@ -1,18 +1,17 @@
 -- What a turn's calls leave, one behind the other.
-use Rattle.std.proofs.Common.{◌≡◌, ◌∙◌, inl, ◌∷◌, arith, ap, sym, subst, refl, ℕ, Bool, true, List, length, None, slice_index_or}
+use Rattle.std.proofs.Common.{◌≡◌, ◌∙◌, inl, ◌∷◌, arith, ap, sym, subst, refl, ℕ, Bool, true, List, length, slice_index_or}
 use Rattle.std.specs.List.{All, Contains, filter_map}
 use Rattle.std.specs.Option.{option_map}
 use Rattle.dq_lits.specs.Expansion.{IsExpansionUnsatisfiable}
 use Rattle.dq_lits.specs.Formula.{Dqbf}
-use Rattle.dq_formula.specs.Prefix.{existential_variables}
 use Rattle.expansion.specs.Table.{PointState, ArePoints, point_bits}
 use Rattle.dq_lits.specs.Skolem.{IsSupported}
 use Rattle.aig_graph.specs.declared.nodes.Node.{Node}
 use Rattle.aig_graph.specs.Graph.{AigGraph}
-use Rattle.aig_graph.specs.Outputs.{OutputsAreSupported, output_node, outputs_of}
+use Rattle.aig_graph.specs.Outputs.{OutputsAreSupported, outputs_of}
 use Rattle.circuit_cnf.specs.Shown.{HoldEverywhere, IsShownSince, ShownOutputsDecide}
 use Rattle.circuit_cnf.specs.declared.checkers.Checker.{Checker}
-use Rattle.hint_log.specs.Entries.{Entry, ProofLog, name_of}
+use Rattle.hint_log.specs.Entries.{Entry, ProofLog}
 use Rattle.hint_log.specs.Growth.{Grew}
 use Rattle.hint_log.specs.Live.{before_beginning}
 use Rattle.hint_log.specs.Naming.{rows_of}
@@ -35,59 +34,30 @@ use Rattle.repair_loop.proofs.UnnamedBefore.{unnamed_since}
 
 pub went_then : (f : Dqbf) (a b e : DatabaseState) (c d g : Checker) (p : Definability) (ready : Bool) (old mid new : ProofLog) →
     HasGoneOn f a b c d p ready old mid → HasGoneOn f b e d g p ready mid new → HasGoneOn f a e c g p ready old new
-went_then f a b e c d g p ready old mid new one two = record {
-  way = two.way;
-  database = database_then a b e one.database two.database;
-  grew = log_then old mid new one.grew two.grew;
-}
+went_then f a b e c d g p ready old mid new one two = search (arith, database_then, log_then)
 
 pub nothing_went : (f : Dqbf) (b : DatabaseState) (c : Checker) (p : Definability) (ready : Bool) (log : ProofLog) →
     IsUnderWay f b c p ready log.entries → HasGoneOn f b b c c p ready log log
 nothing_went f b c p ready log way = record { way = way; database = same_database b; grew = log_same log log refl }
 
 pub caught_up_after : (b after : DatabaseState) → IsCaughtUp b after → IsDatabaseAfter b after
-caught_up_after b after up = record {
-  same =
-      up.same ∙ ap (λ t. record b { table = t; given = after.given; groups = after.groups })
-      (sym (ap (λ (x : DatabaseState). x.table) up.same));
-  many_groups = up.many_groups;
-}
+caught_up_after b after up = search arith
 
 pub row_after : (b after : DatabaseState) → after ≡ record b { table = after.table } → IsDatabaseAfter b after
-row_after b after same = record {
-  same =
-      same ∙ ap (λ gs. record b { table = after.table; given = gs })
-      (sym (ap (λ (x : DatabaseState). x.given) same))
-      ∙ ap (λ gs. record b { table = after.table; given = after.given; groups = gs })
-      (sym (ap (λ (x : DatabaseState). x.groups) same));
-  many_groups = ap (λ (x : DatabaseState). length x.groups) same;
-}
+row_after b after same = search arith
 
 -- nothing was decided
 pub left_open : (f : Dqbf) (b after : DatabaseState) (c d : Checker) (p : Definability) (ready : Bool) (silent : Bool) (old new : ProofLog) →
     silent ≡ true → IsLeft f b after c d p ready silent old new → rows_of new.entries ≡ after.table.rows →
     IsUndecidedSince (all_of b) old.entries → IsOpen f after d p ready new.entries
-left_open f b after c d p ready silent old new quiet left rows before = record {
-  way = left.went.way;
-  rows = rows;
-  undecided = subst (λ a. IsUndecidedSince a new.entries) (sym (ap all_of left.went.database.same))
-      (left.undecided quiet before);
-}
+left_open f b after c d p ready silent old new quiet left rows before = search arith
 
 pub left_search : (f : Dqbf) (graph more : AigGraph) (b after : DatabaseState) (c d : Checker) (p : Definability) (ready : Bool) (silent : Bool)
     (old new : ProofLog) → silent ≡ true → IsLeft f b after c d p ready silent old new →
     fault_groups new.entries ≡ fault_groups old.entries → rows_of new.entries ≡ after.table.rows →
     more.inputs ≡ graph.inputs →
     IsSearch f graph b c p ready old.entries → IsSearch f more after d p ready new.entries
-left_search f graph more b after c d p ready silent old new quiet left faults rows same s =
-    let few = s.room in
-    let many = ap length faults in
-    let room = left.room in
-    record {
-      here = left_open f b after c d p ready silent old new quiet left rows s.here.undecided;
-      inputs = same ∙ s.inputs;
-      room = omega (arith, few, many, room);
-    }
+left_search f graph more b after c d p ready silent old new quiet left faults rows same s = search (arith, left_open)
 
 pub refuted_after : (b after : DatabaseState) (es : List Entry) (id : ℕ) → IsDatabaseAfter b after → IsRefutedLive b es id →
     IsRefutedLive after es id
@@ -113,16 +83,7 @@ answered_false b after log id same rows none shown = record {
 -- a round's row is the same
 pub round_after : (f : Dqbf) (b : DatabaseState) (c : Checker) (p : Definability) (ready : Bool) (row here : List Bool) (old mid new : ProofLog) →
     row ≡ here → LogGrew old mid → IsNewRound f b c p ready row mid new → IsNewRound f b c p ready here old new
-round_after f b c p ready row here old mid new same grew round =
-    let steps = grew.steps in
-    let limit = grew.limit in
-    let more = round.step in
-    let within = round.within in
-    record {
-      logged = subst (λ r. IsRoundLogged f b c p ready r new.entries) same round.logged;
-      step = omega (arith, steps, more);
-      within = omega (arith, steps, limit, within);
-    }
+round_after f b c p ready row here old mid new same grew round = search arith
 
 -- with its row a database is whole again
 pub row_search : InstancesLeaveSearches → (f : Dqbf) (graph : AigGraph) (b after : DatabaseState) (c : Checker) (p : Definability) (ready : Bool)
@@ -156,20 +117,11 @@ pub model_of : (f : Dqbf) (b after : DatabaseState) (points : PointState) (es : 
     IsUnderWay f b c p ready es → IsCaughtUp b after → points.variables ≡ b.table.existentials →
     length points.rows ≡ length b.table.rows → ArePoints (now_of b) b.table.rows (point_bits points) →
     IsModel f after.table points
-model_of f b after points es c p ready way up variables rows model =
-    let table : after.table ≡ b.table = ap (λ (x : DatabaseState). x.table) up.same in
-    subst (λ t. IsModel f t points) (sym table) (record {
-      whole = subst (λ g. All (λ row. length row ≡ length g.universals) b.table.rows) (sym way.now_is)
-          way.database.table.own.whole;
-      variables = variables ∙ way.database.table.existentials ∙ ap existential_variables (sym way.now_is);
-      rows = rows;
-      are_points = subst (λ g. ArePoints g b.table.rows (point_bits points)) (sym way.now_is) model;
-    })
+model_of f b after points es c p ready way up variables rows model = search arith
 
 pub outputs_supported : OutputsAreSupported → (f : Dqbf) (graph : AigGraph) (nodes : List Node) →
     All (λ y. IsSupported (outputs_of f graph nodes y)) f.existentials
-outputs_supported law f graph nodes k d below =
-    law f graph (output_node f nodes (slice_index_or f.existentials k d))
+outputs_supported law f graph nodes k d below = search (arith, slice_index_or)
 
 -- outputs that hold
 pub answered_true : OutputsAreSupported → ShownOutputsDecide → (f : Dqbf) (graph : AigGraph) (rows : List (List Bool))
@@ -180,53 +132,25 @@ answered_true supported decide f graph rows nodes old log id built holds same si
     let shown = since.shown in
     let right = decide f graph nodes shown.earlier shown.clause shown.hints shown.shows built.reads in
     record {
-      found = record {
-        one_each = built.one_each;
-        are_nodes = built.are_nodes;
-        functions = record {
-          supported = outputs_supported supported f graph nodes;
-          reads_declared = built.reads;
-          holds = holds;
-        };
-        shown = shown;
-      };
+      found = search (arith, outputs_supported);
       decides = record { rests = shown.shows.rests; reads = right.reads };
-      current =
-          let last : before_beginning shown.earlier ≡ before_beginning log.entries =
-          sym (ap before_beginning shown.answered) in
-          subst (λ es. name_of es shown.shows.rests.group ≡ None) (sym (last ∙ same))
-          (unnamed_since old.entries shown.shows.rests.group since.fresh);
+      current = search (arith, unnamed_since);
     }
 
 -- a search that went on, so far
 pub ended_by : (f : Dqbf) (b after : DatabaseState) (c d : Checker) (p : Definability) (ready : Bool) (old new : ProofLog) →
     HasGoneOn f b after c d p ready old new → HasEnded b after old new
-ended_by f b after c d p ready old new went = record {
-  kept = subst (λ a. IsKept a new.entries) (ap all_of went.database.same) went.way.kept;
-  new_faults = went.way.new_faults;
-  database = went.database;
-  grew = went.grew;
-}
+ended_by f b after c d p ready old new went = search arith
 
 -- what a search came to that had gone on before
 pub ended_then : (f : Dqbf) (b mid after : DatabaseState) (c d : Checker) (p : Definability) (ready : Bool) (old between new : ProofLog) →
     HasGoneOn f b mid c d p ready old between → HasEnded mid after between new → HasEnded b after old new
-ended_then f b mid after c d p ready old between new went ended = record {
-  kept = subst (λ a. IsKept a new.entries) (ap all_of went.database.same) ended.kept;
-  new_faults = ended.new_faults;
-  database = database_then b mid after went.database ended.database;
-  grew = log_then old between new went.grew ended.grew;
-}
+ended_then f b mid after c d p ready old between new went ended = search (arith, database_then, log_then)
 
 -- two parts of a search, one behind the other
 pub ended_both : (b mid after : DatabaseState) (old between new : ProofLog) →
     HasEnded b mid old between → HasEnded mid after between new → HasEnded b after old new
-ended_both b mid after old between new one two = record {
-  kept = subst (λ a. IsKept a new.entries) (ap all_of one.database.same) two.kept;
-  new_faults = two.new_faults;
-  database = database_then b mid after one.database two.database;
-  grew = log_then old between new one.grew two.grew;
-}
+ended_both b mid after old between new one two = search (arith, database_then, log_then)
 
 -- a row was refused
 pub row_refused : InstancesLeaveLogs → (f : Dqbf) (b after : DatabaseState) (c : Checker) (p : Definability) (ready : Bool) (row : List Bool)

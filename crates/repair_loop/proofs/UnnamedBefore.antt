@@ -1,17 +1,12 @@
 -- Names before the last search began.
-use Rattle.std.proofs.Common.{◌≡◌, ◌==◌, ℕ, Bool, true, false, cond, List, [], ◌∷◌, None, Some}
+use Rattle.std.proofs.Common.{◌≡◌, ℕ, List, [], ◌∷◌, None, arith}
 use Rattle.hint_log.specs.Entries.{Entry, Named, Given, Learned, Answer, Round, Begun, name_of}
 use Rattle.hint_log.specs.Live.{before_beginning}
 
 -- what has no name had none before
 pub unnamed_since : (es : List Entry) (v : ℕ) → name_of es v ≡ None → name_of (before_beginning es) v ≡ None
 unnamed_since [] v none = none
-unnamed_since (Named w name ∷ es) v none = by_bit (unnamed_since es v) (v == w) none
-  where
-    by_bit : (name_of es v ≡ None → name_of (before_beginning es) v ≡ None) → (b : Bool) →
-        cond b (Some name) (name_of es v) ≡ None → name_of (before_beginning es) v ≡ None
-    by_bit earlier true h = cc
-    by_bit earlier false h = earlier h
+unnamed_since (Named w name ∷ es) v none = search (arith, (unnamed_since es v))
 unnamed_since (Given origin c ∷ es) v none = unnamed_since es v none
 unnamed_since (Learned c hints ∷ es) v none = unnamed_since es v none
 unnamed_since (Answer c hints ∷ es) v none = unnamed_since es v none

@@ -1,5 +1,5 @@
 -- Where each search is about all clauses, a session's points are those of a log for one formula.
-use Rattle.std.proofs.Common.{◌≡◌, ℕ, Bool, true, List, [], ◌∷◌, None, refl, sym, ◌∙◌, ap, subst}
+use Rattle.std.proofs.Common.{◌≡◌, ℕ, Bool, true, List, [], ◌∷◌, None, refl, sym, ◌∙◌, ap, subst, arith}
 use Rattle.dq_lits.specs.Formula.{Dqbf}
 use Rattle.dq_lits.specs.Literal.{Literal}
 use Rattle.hint_log.specs.Deciding.{IsUndecided}
@@ -41,8 +41,7 @@ plain_given : (f : Dqbf) (earlier : List Entry) (origin : Origin) (c : List Lite
     MatchesLiveOrigin f earlier (Given origin c) → MatchesOrigin f earlier (Given origin c)
 plain_given f earlier (Instance k j) c whole is = is
 plain_given f earlier (Gate v i) c whole is = is
-plain_given f earlier (Fault j i leaf) c whole is =
-    subst (λ g. MatchesOrigin g earlier (Given (Fault j i leaf) c)) (whole_formula f earlier whole) is
+plain_given f earlier (Fault j i leaf) c whole is = search (arith, whole_formula)
 plain_given f earlier (Copy side j) c whole is = is
 plain_given f earlier (Link v i) c whole is = is
 plain_given f earlier (TermGate v i) c whole is = is
@@ -52,8 +51,7 @@ plain_origins : (f : Dqbf) (es : List Entry) → Each (IsWhole f) es → Each (M
     Each (MatchesOrigin f) es
 plain_origins f [] whole each = tt
 plain_origins f (Named v n ∷ es) whole each = (each.0, plain_origins f es whole.1 each.1)
-plain_origins f (Given origin c ∷ es) whole each =
-    (plain_given f es origin c whole.1 each.0, plain_origins f es whole.1 each.1)
+plain_origins f (Given origin c ∷ es) whole each = search (arith, plain_given, (plain_origins f es whole.1 each.1))
 plain_origins f (Learned c hints ∷ es) whole each = (tt, plain_origins f es whole.1 each.1)
 plain_origins f (Answer c hints ∷ es) whole each = (tt, plain_origins f es whole.1 each.1)
 plain_origins f (Round row values j ∷ es) whole each = (tt, plain_origins f es whole.1 each.1)
@@ -62,22 +60,15 @@ plain_origins f (Begun live ∷ es) whole each = (tt, plain_origins f es whole.1
 plain_rows : (f : Dqbf) (es : List Entry) → Each (IsWhole f) es → Each (RefutesNewLiveRow f) es →
     Each (RefutesNewRow f) es
 plain_rows f [] whole each = tt
-plain_rows f (e ∷ es) whole each =
-    (subst (λ g. RefutesNewRow g es e) (whole_formula f es whole.1) each.0, plain_rows f es whole.1 each.1)
+plain_rows f (e ∷ es) whole each = search (arith, whole_formula, (plain_rows f es whole.1 each.1))
 
 plain_models : (f : Dqbf) (es : List Entry) → Each (IsWhole f) es → Each (FollowsLiveModel f) es →
     Each (FollowsModel f) es
 plain_models f [] whole each = tt
-plain_models f (e ∷ es) whole each =
-    (subst (λ g. FollowsModel g es e) (whole_formula f es whole.1) each.0, plain_models f es whole.1 each.1)
+plain_models f (e ∷ es) whole each = search (arith, whole_formula, (plain_models f es whole.1 each.1))
 
 pub plainly : (f : Dqbf) (es : List Entry) → Each (IsWhole f) es → IsKept f es → IsPlain f es
-plainly f es whole kept = record {
-  origins = plain_origins f es whole kept.origins;
-  new_rows = plain_rows f es whole kept.new_rows;
-  models = plain_models f es whole kept.models;
-  givens = kept.givens;
-}
+plainly f es whole kept = search (arith, plain_origins, plain_rows, plain_models)
 
 -- with what the solver keeps of its log, the log is productive
 pub productive : (f : Dqbf) (entries : List Entry) → IsPlain f entries → IsSearched entries → IsProductiveLog f entries
@@ -125,12 +116,7 @@ pub alone_log : EnginesLeaveSessions → PlainLogsAreSessions → (f : Dqbf) (be
 alone_log law plain f before after empty grew =
     let left = law f instances [] true before after grew in
     let none : live_numbers after.entries ≡ None = left.live ∙ ap live_numbers empty in
-    let kept : IsKept f after.entries = record {
-      origins = left.origins (subst (Each (MatchesLiveOrigin f)) (sym empty) tt);
-      new_rows = left.new_rows (subst (Each (RefutesNewLiveRow f)) (sym empty) tt);
-      models = left.models (subst (Each (FollowsLiveModel f)) (sym empty) tt);
-      givens = left.givens (subst (Each IsNotRepeated) (sym empty) tt);
-    } in
+    let kept : IsKept f after.entries = search arith in
     let since = left.decisions refl (subst (IsUndecidedSince f) (sym empty) tt) in
     record {
       none = none;

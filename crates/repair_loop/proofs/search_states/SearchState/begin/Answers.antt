@@ -3,7 +3,7 @@ use Rattle.hint_log.specs.Entries.{Begun, with_entry}
 use Rattle.dq_session.specs.Databases.{live_of}
 use Rattle.definability.specs.declared.definability.Definability.{Definability}
 use Rattle.circuit_cnf.specs.declared.checkers.Checker.{Checker}
-use Rattle.repair_loop.specs.Beginning.{HasBegunUndecided, HasStarted}
+use Rattle.repair_loop.specs.Beginning.{HasStarted}
 use Rattle.repair_loop.specs.Turning.{IsSearch}
 use Rattle.repair_loop.proofs.Beginnings.{begun_search, begun_undecided, either_way, no_start, only_begun}
 use Rattle.list_laws.proofs.Results.{on_ok}

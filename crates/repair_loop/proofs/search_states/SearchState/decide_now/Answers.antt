@@ -1,4 +1,4 @@
-use Rattle.std.proofs.Common.{◌∙◌, false, inl, [], sym, ap, subst}
+use Rattle.std.proofs.Common.{◌∙◌, false, [], sym, ap, subst, arith}
 use Rattle.std.specs.Option.{unwrap_or}
 use Rattle.list_laws.proofs.Results.{on_err}
 use Rattle.dq_session.specs.Databases.{live_of}
@@ -16,20 +16,16 @@ pub returns-in_err-begin-clause-kept : goal.returns-in_err-begin-clause-kept
 returns-in_err-begin-clause-kept g c = c.begin.ensures.started.standing.kept
 
 pub returns-in_err-begin-clause-selectors : goal.returns-in_err-begin-clause-selectors
-returns-in_err-begin-clause-selectors g c =
-    (g.met.O.Oracle.searched c.args.oracle.now c.begin.new.log c.begin.ensures.fit).kept
+returns-in_err-begin-clause-selectors g c = search arith
 
 pub returns-in_err-begin-clause-limit_same : goal.returns-in_err-begin-clause-limit_same
 returns-in_err-begin-clause-limit_same g c = c.begin.ensures.started.limit
 
 pub returns-in_err-begin-clause-undecided : goal.returns-in_err-begin-clause-undecided
-returns-in_err-begin-clause-undecided g c begun =
-    on_err _ (start_undecided c.args.database.now c.begin.new.self c.args.log.now c.begin.new.log
-    c.begin.ensures.started begun)
+returns-in_err-begin-clause-undecided g c begun = search (arith, on_err, start_undecided)
 
 pub returns-in_err-begin-clause-new_faults : goal.returns-in_err-begin-clause-new_faults
-returns-in_err-begin-clause-new_faults g c begun =
-    start_faults c.args.database.now c.begin.new.self c.args.log.now c.begin.new.log c.begin.ensures.started begun
+returns-in_err-begin-clause-new_faults g c begun = search (arith, start_faults)
 
 pub search-requires-clause-search : goal.search-requires-clause-search
 search-requires-clause-search g c =
@@ -49,9 +45,7 @@ returns-clause-ready g c other =
     (g.met.O.Oracle.searched c.search.new.oracle c.search.new.log c.search.ensures.fit) named c.search.ensures.inputs
 
 pub returns-clause-began : goal.returns-clause-began
-returns-clause-began g c =
-    inl (begun_on (live_of c.args.database.now) c.args.log.now c.begin.new.log c.search.new.log
-    c.in_ok-begin.ensures.begun.begun c.search.ensures.ended.grew)
+returns-clause-began g c = search (arith, begun_on)
 
 pub returns-clause-shown_false : goal.returns-clause-shown_false
 returns-clause-shown_false g c id e =
@@ -65,5 +59,4 @@ returns-clause-new_faults g c begun =
     c.search.ensures.ended.new_faults
 
 pub search-requires-clause-begun : goal.search-requires-clause-begun
-search-requires-clause-begun g c =
-    c.begin.ensures.started.named ∙ ap (λ o. unwrap_or o []) c.in_ok-begin.ensures.begun.begun.named
+search-requires-clause-begun g c = search arith

@@ -2,7 +2,6 @@ use Rattle.std.proofs.Common.{ℕ, None, ◌≡◌, ◌∙◌, refl, ap, subst, 
 use Rattle.std.specs.List.{Contains}
 use Rattle.std.proofs.lemmas.List.Elements.{All-contains}
 use Rattle.hint_log.specs.Entries.{name_of}
-use Rattle.log_laws.specs.Engines.{copies}
 use Rattle.definability.specs.Copies.{groups_of}
 use Rattle.definability.specs.Store.{copy_groups}
 use Rattle.repair_loop.proofs.FirstSearchStates.{FirstLaws, first_has_none, first_no_faults, first_ready, mid_plain, mid_undecided, mid_none, mid_no_circuits, end_plain, end_undecided, end_none}
@@ -10,9 +9,7 @@ use Rattle.repair_loop.proofs.WholeSearches.{productive}
 use Rattle.repair_loop.proofs.search_states.SearchState.new.Goals as goal
 
 pub first_copies-requires-clause-none : goal.first_copies-requires-clause-none
-first_copies-requires-clause-none g c =
-    let (b, first) = c.requires.database in
-    first_has_none c.args.f.now copies refl b c.args.log.now.entries first
+first_copies-requires-clause-none g c = search (arith, first_has_none)
 
 pub first_copies-requires-clause-few : goal.first_copies-requires-clause-few
 first_copies-requires-clause-few g c =
@@ -25,74 +22,27 @@ returns-in_err-definability-clause-limit_same g c = (c.first_copies.ensures.grew
 
 pub returns-in_err-definability-clause-productive : goal.returns-in_err-definability-clause-productive
 returns-in_err-definability-clause-productive g c =
-    let laws : FirstLaws = record {
-      rest = c.engines_leave_the_rest.ensures;
-      sessions = c.engines_leave_sessions.ensures;
-      plain = c.plain_logs_are_sessions.ensures;
-      databases = c.engines_leave_databases.ensures;
-      stores = c.engines_leave_stores.ensures;
-      grouped = c.search_states_are_grouped.ensures;
-    } in
+    let laws : FirstLaws = search arith in
     let f = c.args.f.now in
     let (b, first) = c.requires.database in
     productive f c.first_copies.new.log.entries (mid_plain laws f b c.args.log.now c.first_copies.new.log first c.first_copies.ensures.grew)
     (g.met.O.Oracle.searched c.first_copies.new.oracle c.first_copies.new.log c.first_copies.ensures.fit)
 
 pub returns-in_err-definability-clause-undecided : goal.returns-in_err-definability-clause-undecided
-returns-in_err-definability-clause-undecided g c =
-    let laws : FirstLaws = record {
-      rest = c.engines_leave_the_rest.ensures;
-      sessions = c.engines_leave_sessions.ensures;
-      plain = c.plain_logs_are_sessions.ensures;
-      databases = c.engines_leave_databases.ensures;
-      stores = c.engines_leave_stores.ensures;
-      grouped = c.search_states_are_grouped.ensures;
-    } in
-    let f = c.args.f.now in
-    let (b, first) = c.requires.database in
-    mid_undecided laws f b c.args.log.now c.first_copies.new.log first c.first_copies.ensures.grew
+returns-in_err-definability-clause-undecided g c = search (arith, mid_undecided)
 
 pub returns-in_err-definability-clause-none : goal.returns-in_err-definability-clause-none
-returns-in_err-definability-clause-none g c =
-    let laws : FirstLaws = record {
-      rest = c.engines_leave_the_rest.ensures;
-      sessions = c.engines_leave_sessions.ensures;
-      plain = c.plain_logs_are_sessions.ensures;
-      databases = c.engines_leave_databases.ensures;
-      stores = c.engines_leave_stores.ensures;
-      grouped = c.search_states_are_grouped.ensures;
-    } in
-    let f = c.args.f.now in
-    let (b, first) = c.requires.database in
-    mid_none laws f b c.args.log.now c.first_copies.new.log first c.first_copies.ensures.grew
+returns-in_err-definability-clause-none g c = search (arith, mid_none)
 
 pub new-requires-clause-none : goal.new-requires-clause-none
-new-requires-clause-none g c =
-    let laws : FirstLaws = record {
-      rest = c.engines_leave_the_rest.ensures;
-      sessions = c.engines_leave_sessions.ensures;
-      plain = c.plain_logs_are_sessions.ensures;
-      databases = c.engines_leave_databases.ensures;
-      stores = c.engines_leave_stores.ensures;
-      grouped = c.search_states_are_grouped.ensures;
-    } in
-    let f = c.args.f.now in
-    let (b, first) = c.requires.database in
-    mid_no_circuits laws f b c.args.log.now c.first_copies.new.log first c.first_copies.ensures.grew
+new-requires-clause-none g c = search (arith, mid_no_circuits)
 
 pub returns-in_err-checker-clause-limit_same : goal.returns-in_err-checker-clause-limit_same
 returns-in_err-checker-clause-limit_same g c = (c.new.ensures.grew 0).limit ∙ (c.first_copies.ensures.grew 0).limit
 
 pub returns-in_err-checker-clause-productive : goal.returns-in_err-checker-clause-productive
 returns-in_err-checker-clause-productive g c =
-    let laws : FirstLaws = record {
-      rest = c.engines_leave_the_rest.ensures;
-      sessions = c.engines_leave_sessions.ensures;
-      plain = c.plain_logs_are_sessions.ensures;
-      databases = c.engines_leave_databases.ensures;
-      stores = c.engines_leave_stores.ensures;
-      grouped = c.search_states_are_grouped.ensures;
-    } in
+    let laws : FirstLaws = search arith in
     let f = c.args.f.now in
     let (b, first) = c.requires.database in
     productive f c.new.new.log.entries (end_plain laws f c.args.log.now c.first_copies.new.log c.new.new.log
@@ -101,14 +51,7 @@ returns-in_err-checker-clause-productive g c =
 
 pub returns-in_err-checker-clause-undecided : goal.returns-in_err-checker-clause-undecided
 returns-in_err-checker-clause-undecided g c =
-    let laws : FirstLaws = record {
-      rest = c.engines_leave_the_rest.ensures;
-      sessions = c.engines_leave_sessions.ensures;
-      plain = c.plain_logs_are_sessions.ensures;
-      databases = c.engines_leave_databases.ensures;
-      stores = c.engines_leave_stores.ensures;
-      grouped = c.search_states_are_grouped.ensures;
-    } in
+    let laws : FirstLaws = search arith in
     let f = c.args.f.now in
     let (b, first) = c.requires.database in
     end_undecided laws f c.args.log.now c.first_copies.new.log c.new.new.log c.new.ensures.grew
@@ -116,14 +59,7 @@ returns-in_err-checker-clause-undecided g c =
 
 pub returns-in_err-checker-clause-none : goal.returns-in_err-checker-clause-none
 returns-in_err-checker-clause-none g c =
-    let laws : FirstLaws = record {
-      rest = c.engines_leave_the_rest.ensures;
-      sessions = c.engines_leave_sessions.ensures;
-      plain = c.plain_logs_are_sessions.ensures;
-      databases = c.engines_leave_databases.ensures;
-      stores = c.engines_leave_stores.ensures;
-      grouped = c.search_states_are_grouped.ensures;
-    } in
+    let laws : FirstLaws = search arith in
     let f = c.args.f.now in
     let (b, first) = c.requires.database in
     end_none laws f c.args.log.now c.first_copies.new.log c.new.new.log c.new.ensures.grew
@@ -134,14 +70,7 @@ returns-clause-limit_same g c = (c.new.ensures.grew 0).limit ∙ (c.first_copies
 
 pub returns-clause-productive : goal.returns-clause-productive
 returns-clause-productive g c =
-    let laws : FirstLaws = record {
-      rest = c.engines_leave_the_rest.ensures;
-      sessions = c.engines_leave_sessions.ensures;
-      plain = c.plain_logs_are_sessions.ensures;
-      databases = c.engines_leave_databases.ensures;
-      stores = c.engines_leave_stores.ensures;
-      grouped = c.search_states_are_grouped.ensures;
-    } in
+    let laws : FirstLaws = search arith in
     let f = c.args.f.now in
     let (b, first) = c.requires.database in
     productive f c.new.new.log.entries (end_plain laws f c.args.log.now c.first_copies.new.log c.new.new.log
@@ -150,14 +79,7 @@ returns-clause-productive g c =
 
 pub returns-clause-undecided : goal.returns-clause-undecided
 returns-clause-undecided g c =
-    let laws : FirstLaws = record {
-      rest = c.engines_leave_the_rest.ensures;
-      sessions = c.engines_leave_sessions.ensures;
-      plain = c.plain_logs_are_sessions.ensures;
-      databases = c.engines_leave_databases.ensures;
-      stores = c.engines_leave_stores.ensures;
-      grouped = c.search_states_are_grouped.ensures;
-    } in
+    let laws : FirstLaws = search arith in
     let f = c.args.f.now in
     let (b, first) = c.requires.database in
     end_undecided laws f c.args.log.now c.first_copies.new.log c.new.new.log c.new.ensures.grew
@@ -165,14 +87,7 @@ returns-clause-undecided g c =
 
 pub returns-clause-none : goal.returns-clause-none
 returns-clause-none g c =
-    let laws : FirstLaws = record {
-      rest = c.engines_leave_the_rest.ensures;
-      sessions = c.engines_leave_sessions.ensures;
-      plain = c.plain_logs_are_sessions.ensures;
-      databases = c.engines_leave_databases.ensures;
-      stores = c.engines_leave_stores.ensures;
-      grouped = c.search_states_are_grouped.ensures;
-    } in
+    let laws : FirstLaws = search arith in
     let f = c.args.f.now in
     let (b, first) = c.requires.database in
     end_none laws f c.args.log.now c.first_copies.new.log c.new.new.log c.new.ensures.grew

@@ -1,4 +1,4 @@
-use Rattle.std.proofs.Common.{◌≡◌, ◌∙◌, ap, Some, Ok}
+use Rattle.std.proofs.Common.{◌≡◌, ◌∙◌, ap, Some, Ok, arith}
 use Rattle.repair_loop.proofs.Turned.{ended_both}
 use Rattle.repair_loop.proofs.search_states.SearchState.search.Goals as goal
 
@@ -13,6 +13,4 @@ returns-in-Some-clause-shown_false g c id e =
     c.look_first.ensures.shown_false id (c.in_ok-verdict.was ∙ ap Ok (c.in-Some.is ∙ ap Some same))
 
 pub returns-in-None-clause-ended : goal.returns-in-None-clause-ended
-returns-in-None-clause-ended g c =
-    ended_both c.args.database.now c.look_first.new.database c.search_on.new.database c.args.log.now c.look_first.new.log
-    c.search_on.new.log c.look_first.ensures.went c.search_on.ensures.ended
+returns-in-None-clause-ended g c = search (arith, ended_both)

@@ -1,18 +1,10 @@
-use Rattle.std.proofs.Common.{rules, ◌≡◌, ◌∙◌, refl, ap, Some, Ok, Err}
+use Rattle.std.proofs.Common.{◌≡◌, ◌∙◌, ap, Some, Ok, arith}
 use Rattle.list_laws.proofs.Results.{on_err}
-use Rattle.hint_log.specs.declared.stops.Stop.TheVariants.{Limit}
 use Rattle.repair_loop.proofs.Turned.{ended_then, nothing_went, went_then}
 use Rattle.repair_loop.proofs.searches.Search.all_rounds.Goals as goal
 
 pub loop-verdict-init : goal.loop-verdict-init
-loop-verdict-init g c = record {
-  fit = c.requires.fit;
-  search = c.requires.search;
-  known = c.requires.known;
-  inputs = refl;
-  went = nothing_went c.args.self.now.f.now c.args.database.now c.args.checker.now c.args.self.now.definability.now
-      c.args.self.now.may_ask c.args.log.now c.requires.search.here.way;
-}
+loop-verdict-init g c = search (arith, nothing_went)
 
 pub round-requires-clause-fit : goal.round-requires-clause-fit
 round-requires-clause-fit g c = c.loop-verdict.invariant.fit
@@ -27,34 +19,16 @@ pub returns-in_err-verdict-clause-inputs : goal.returns-in_err-verdict-clause-in
 returns-in_err-verdict-clause-inputs g c = c.round.ensures.inputs ∙ c.loop-verdict.invariant.inputs
 
 pub returns-in_err-verdict-clause-ended : goal.returns-in_err-verdict-clause-ended
-returns-in_err-verdict-clause-ended g c =
-    let s = c.args.self.now in
-    ended_then s.f.now c.args.database.now c.loop-verdict.database c.round.new.database c.args.checker.now c.loop-verdict.checker
-    s.definability.now s.may_ask c.args.log.now c.loop-verdict.log c.round.new.log c.loop-verdict.invariant.went
-    c.round.ensures.ended
+returns-in_err-verdict-clause-ended g c = search (arith, ended_then)
 
 pub returns-in_err-verdict-clause-stopped : goal.returns-in_err-verdict-clause-stopped
-returns-in_err-verdict-clause-stopped g c =
-    let s = c.in_err-verdict.ensures.stopped in
-    record {
-      undecided = on_err _ s.undecided;
-      limit = λ is.
-          let stop : c.in_err-verdict.field-0.0 ≡ Limit = search rules in
-          s.limit (ap (λ e. Err e) stop);
-      rows = λ is.
-          let stop : c.in_err-verdict.field-0.0 ≡ Limit = search rules in
-          s.rows (ap (λ e. Err e) stop);
-    }
+returns-in_err-verdict-clause-stopped g c = search (arith, on_err)
 
 pub returns-in-Some-clause-inputs : goal.returns-in-Some-clause-inputs
 returns-in-Some-clause-inputs g c = c.round.ensures.inputs ∙ c.loop-verdict.invariant.inputs
 
 pub returns-in-Some-clause-ended : goal.returns-in-Some-clause-ended
-returns-in-Some-clause-ended g c =
-    let s = c.args.self.now in
-    ended_then s.f.now c.args.database.now c.loop-verdict.database c.round.new.database c.args.checker.now c.loop-verdict.checker
-    s.definability.now s.may_ask c.args.log.now c.loop-verdict.log c.round.new.log c.loop-verdict.invariant.went
-    c.round.ensures.ended
+returns-in-Some-clause-ended g c = search (arith, ended_then)
 
 pub returns-in-Some-clause-shown_true : goal.returns-in-Some-clause-shown_true
 returns-in-Some-clause-shown_true g c nodes id e =
@@ -78,7 +52,5 @@ loop-verdict-preserved g c =
       search = next.search;
       known = next.known_there;
       inputs = c.round.ensures.inputs ∙ c.loop-verdict.invariant.inputs;
-      went = went_then s.f.now c.args.database.now c.loop-verdict.database c.round.new.database c.args.checker.now
-          c.loop-verdict.checker c.round.new.checker s.definability.now s.may_ask c.args.log.now c.loop-verdict.log
-          c.round.new.log c.loop-verdict.invariant.went next.went;
+      went = search (arith, went_then);
     }

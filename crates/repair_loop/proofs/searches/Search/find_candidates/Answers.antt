@@ -1,6 +1,5 @@
-use Rattle.std.proofs.Common.{rules, ◌≡◌, ◌∙◌, refl, ap, subst, Ok, Err}
+use Rattle.std.proofs.Common.{◌≡◌, ◌∙◌, refl, ap, subst, Ok, arith}
 use Rattle.list_laws.proofs.Results.{on_err}
-use Rattle.hint_log.specs.declared.stops.Stop.TheVariants.{Limit}
 use Rattle.expansion.specs.Silence.{is_silent}
 use Rattle.oracle.proofs.SomeLimits.{some_limit}
 use Rattle.dq_session.specs.Databases.{DatabaseState}
@@ -11,9 +10,7 @@ use Rattle.repair_loop.proofs.Turned.{after_undecided, answered_false, caught_up
 use Rattle.repair_loop.proofs.searches.Search.find_candidates.Goals as goal
 
 pub solve-requires-clause-database : goal.solve-requires-clause-database
-solve-requires-clause-database g c =
-    let here = c.requires.search.1.here in
-    record { database = here.way.database; rows = here.rows }
+solve-requires-clause-database g c = search arith
 
 pub solve-requires-clause-few : goal.solve-requires-clause-few
 solve-requires-clause-few g c = c.requires.search.1.here.way.faults
@@ -41,10 +38,7 @@ returns-in_err-id-clause-stopped g c =
     record {
       undecided = on_err _ (after_undecided c.args.database.now c.solve.new.self c.solve.new.log.entries left.0.went.database
           (left.0.undecided (ap is_silent c.in_err-id.was) before.here.undecided));
-      limit = λ is.
-          let stop : c.in_err-id.field-0.0 ≡ Limit = search rules in
-          by_lemma s.f.now c.solve.new.log (some_limit c.solve.new.log
-          (c.in_err-id.ensures.limit (ap (λ e. Err e) stop)));
+      limit = search (arith, by_lemma, some_limit);
       rows = λ is. c.solve.ensures.database.rows;
     }
 
@@ -86,12 +80,7 @@ propose-requires-clause-search g c =
     )
 
 pub propose-requires-clause-model : goal.propose-requires-clause-model
-propose-requires-clause-model g c =
-    let (checker, before) = c.requires.search in
-    let was = c.in_ok-id.was ∙ ap Ok c.in-Model.is in
-    model_of c.args.self.now.f.now c.args.database.now c.solve.new.self c.in-Model.points c.args.log.now.entries
-    checker c.args.self.now.definability.now c.args.self.now.may_ask before.here.way c.solve.ensures.same (c.solve.ensures.point_variables c.in-Model.points was)
-    (c.solve.ensures.point_rows c.in-Model.points was) (c.solve.ensures.model c.in-Model.points was)
+propose-requires-clause-model g c = search (arith, model_of)
 
 pub returns-in_err-outputs-in-Model-clause-went : goal.returns-in_err-outputs-in-Model-clause-went
 returns-in_err-outputs-in-Model-clause-went g c checker before =
@@ -135,10 +124,7 @@ returns-in_err-outputs-in-Model-clause-stopped g c =
     let more = c.propose.ensures.left checker next in
     record {
       undecided = on_err _ (more.undecided refl next.here.undecided);
-      limit = λ is.
-          let stop : c.in_err-outputs-in-Model.field-0.0 ≡ Limit = search rules in
-          by_lemma s.f.now c.propose.new.log
-          (c.in_err-outputs-in-Model.ensures.limit (ap (λ e. Err e) stop));
+      limit = search (arith, by_lemma);
       rows = λ is. more.rows ∙ c.solve.ensures.database.rows;
     }
 

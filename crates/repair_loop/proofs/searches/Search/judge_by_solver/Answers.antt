@@ -1,13 +1,11 @@
-use Rattle.std.proofs.Common.{rules, ◌≡◌, ◌∙◌, ap, sym, subst, Ok, Err}
+use Rattle.std.proofs.Common.{rules, ◌≡◌, ◌∙◌, ap, sym, subst, Ok, Err, arith}
 use Rattle.list_laws.proofs.Results.{on_err}
 use Rattle.oracle.proofs.SomeLimits.{some_limit}
 use Rattle.std.specs.List.{All}
 use Rattle.hint_log.specs.declared.stops.Stop.TheVariants.{Limit}
-use Rattle.circuit_cnf.specs.Checking.{IsChecker}
 use Rattle.circuit_cnf.specs.Failing.{is_silent, IsFailure}
 use Rattle.circuit_cnf.specs.Shown.{HoldEverywhere, IsShownSince}
 use Rattle.aig_graph.specs.Outputs.{ReadsUniversals, outputs_of}
-use Rattle.dq_session.specs.Databases.{now_of}
 use Rattle.repair_loop.specs.SearchStates.{IsAnsweredTrue}
 use Rattle.repair_loop.proofs.LiveGrowth.{same_prefix}
 use Rattle.repair_loop.proofs.Stops.{by_lemma}
@@ -16,11 +14,7 @@ use Rattle.repair_loop.proofs.UniversalInputs.{outputs_read_universals}
 use Rattle.repair_loop.proofs.searches.Search.judge_by_solver.Goals as goal
 
 pub turn-requires-clause-checker : goal.turn-requires-clause-checker
-turn-requires-clause-checker g c =
-    let b = c.args.database.now in
-    let way = c.requires.search.here.way in
-    subst (λ f. IsChecker f c.args.checker.now c.args.log.now.entries) (sym way.now_is)
-    (same_prefix b.file b.file.matrix (now_of b).matrix c.args.checker.now c.args.log.now.entries way.checked)
+turn-requires-clause-checker g c = search (arith, same_prefix)
 
 pub turn-requires-clause-formula : goal.turn-requires-clause-formula
 turn-requires-clause-formula g c = c.requires.search.here.way.formula
@@ -127,14 +121,4 @@ returns-in_ok-log_failure-in-Fails-clause-fail g c row e =
     c.turn.new.log c.log_failure.new.log same left.went.grew c.in_ok-log_failure-in-Fails.ensures.round
 
 pub returns-in_err-log_failure-in-Fails-clause-stopped : goal.returns-in_err-log_failure-in-Fails-clause-stopped
-returns-in_err-log_failure-in-Fails-clause-stopped g c =
-    let s = c.in_err-log_failure-in-Fails.ensures.stopped in
-    record {
-      undecided = on_err _ s.undecided;
-      limit = λ is.
-          let stop : c.in_err-log_failure-in-Fails.field-0.0 ≡ Limit = search rules in
-          s.limit (ap (λ e. Err e) stop);
-      rows = λ is.
-          let stop : c.in_err-log_failure-in-Fails.field-0.0 ≡ Limit = search rules in
-          s.rows (ap (λ e. Err e) stop);
-    }
+returns-in_err-log_failure-in-Fails-clause-stopped g c = search (arith, on_err)

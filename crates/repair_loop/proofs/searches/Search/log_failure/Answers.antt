@@ -7,7 +7,7 @@ use Rattle.hint_log.specs.declared.stops.Stop.TheVariants.{Limit}
 use Rattle.aig_graph.specs.Outputs.{outputs_of}
 use Rattle.dq_session.specs.Databases.{all_of}
 use Rattle.repair_loop.specs.Stopping.{IsStoppedAtLimit}
-use Rattle.repair_loop.specs.Turning.{IsUnderWay, IsRoundLogged}
+use Rattle.repair_loop.specs.Turning.{IsRoundLogged}
 use Rattle.repair_loop.proofs.LogGrowth.{log_same, round_grew, round_counts, steps_left}
 use Rattle.repair_loop.proofs.Stages.{same_database}
 use Rattle.repair_loop.proofs.Stops.{by_round}
@@ -43,14 +43,7 @@ returns-clause-went g c =
     }
 
 pub returns-in_err-round-clause-went : goal.returns-in_err-round-clause-went
-returns-in_err-round-clause-went g c =
-    let s = c.args.self.now in
-    record {
-      way = subst (λ (l : ProofLog). IsUnderWay s.f.now c.args.database.now c.args.checker.now s.definability.now s.may_ask l.entries)
-          (sym c.in_err-round.ensures.err) c.requires.here.way;
-      database = same_database c.args.database.now;
-      grew = log_same c.args.log.now c.round.new.self c.in_err-round.ensures.err;
-    }
+returns-in_err-round-clause-went g c = search (arith, same_database, log_same)
 
 pub returns-in_err-round-clause-stopped : goal.returns-in_err-round-clause-stopped
 returns-in_err-round-clause-stopped g c =

@@ -1,6 +1,5 @@
-use Rattle.std.proofs.Common.{rules, ◌≡◌, ◌∙◌, refl, ap, subst, Ok, Err}
+use Rattle.std.proofs.Common.{◌≡◌, ◌∙◌, ap, subst, Ok, arith}
 use Rattle.list_laws.proofs.Results.{on_err}
-use Rattle.hint_log.specs.declared.stops.Stop.TheVariants.{Limit}
 use Rattle.expansion.specs.Silence.{is_silent}
 use Rattle.oracle.proofs.SomeLimits.{some_limit}
 use Rattle.dq_session.specs.Databases.{DatabaseState}
@@ -11,9 +10,7 @@ use Rattle.repair_loop.proofs.searches.Search.look_at_rows.Goals.{in-Refuted, in
 use Rattle.repair_loop.proofs.searches.Search.look_at_rows.Goals as goal
 
 pub solve-requires-clause-database : goal.solve-requires-clause-database
-solve-requires-clause-database g c =
-    let here = c.requires.search.2.here in
-    record { database = here.way.database; rows = here.rows }
+solve-requires-clause-database g c = search arith
 
 pub solve-requires-clause-few : goal.solve-requires-clause-few
 solve-requires-clause-few g c = c.requires.search.2.here.way.faults
@@ -38,10 +35,7 @@ returns-in_err-id-clause-stopped g c =
     record {
       undecided = on_err _ (after_undecided c.args.database.now c.solve.new.self c.solve.new.log.entries left.0.went.database
           (left.0.undecided (ap is_silent c.in_err-id.was) before.here.undecided));
-      limit = λ is.
-          let stop : c.in_err-id.field-0.0 ≡ Limit = search rules in
-          by_lemma s.f.now c.solve.new.log (some_limit c.solve.new.log
-          (c.in_err-id.ensures.limit (ap (λ e. Err e) stop)));
+      limit = search (arith, by_lemma, some_limit);
       rows = λ is. c.solve.ensures.database.rows;
     }
 
@@ -78,7 +72,5 @@ returns-clause-search g c graph checker before e =
     before.here.way in
     elim c.match-branch-2.branch [
       | in-Refuted w ↦ cc
-      | in-Model w ↦ left_search s.f.now graph graph c.args.database.now c.solve.new.self checker checker s.definability.now s.may_ask
-          (is_silent c.solve.result) c.args.log.now c.solve.new.log (ap is_silent (c.in_ok-id.was ∙ ap Ok w.in-Model.is))
-          left.0 left.1 c.solve.ensures.database.rows refl before
+      | in-Model w ↦ search (arith, left_search)
     ]

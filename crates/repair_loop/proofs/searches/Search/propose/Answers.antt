@@ -1,5 +1,4 @@
-use Rattle.std.proofs.Common.{◌≡◌, ◌∙◌, true, refl, sym, ap, subst, length}
-use Rattle.std.specs.List.{All}
+use Rattle.std.proofs.Common.{◌≡◌, ◌∙◌, true, refl, sym, ap, subst, length, arith}
 use Rattle.candidate_functions.specs.Candidates.{AgreeAtPairs, AreDefinitions, AreGuesses}
 use Rattle.aig_graph.specs.Outputs.{outputs_of}
 use Rattle.expansion.specs.Table.{TableState, point_bits}
@@ -9,25 +8,10 @@ use Rattle.repair_loop.proofs.Turned.{left_search}
 use Rattle.repair_loop.proofs.searches.Search.propose.Goals as goal
 
 pub force-requires-clause-may : goal.force-requires-clause-may
-force-requires-clause-may g c on =
-    let (checker, before) = c.requires.search in
-    record {
-      formula = before.here.way.formula;
-      copied = before.here.way.copied on;
-      one_each = c.requires.known.one_each;
-      forced = c.requires.known.forced;
-    }
+force-requires-clause-may g c on = search arith
 
 pub force-requires-clause-model : goal.force-requires-clause-model
-force-requires-clause-model g c =
-    let m = c.requires.model in
-    let t = c.table.ensures in
-    record {
-      whole = subst (λ (x : TableState). All (λ row. length row ≡ length c.args.self.now.f.now.universals) x.rows) (sym t)
-          m.whole;
-      variables = m.variables;
-      rows = m.rows ∙ ap (λ (x : TableState). length x.rows) (sym t);
-    }
+force-requires-clause-model g c = search arith
 
 pub returns-in_err-force-clause-left : goal.returns-in_err-force-clause-left
 returns-in_err-force-clause-left g c checker before =

@@ -1,6 +1,5 @@
-use Rattle.std.proofs.Common.{rules, ◌≡◌, ◌∙◌, refl, ap, subst, Ok, length, Err}
+use Rattle.std.proofs.Common.{◌≡◌, ◌∙◌, refl, ap, subst, Ok, arith}
 use Rattle.list_laws.proofs.Results.{on_err}
-use Rattle.hint_log.specs.declared.stops.Stop.TheVariants.{Limit}
 use Rattle.repair_loop.specs.SearchStates.{IsAnsweredFalse, IsAnsweredTrue}
 use Rattle.repair_loop.proofs.LogGrowth.{fewer_left}
 use Rattle.repair_loop.proofs.Stops.{stop_left}
@@ -14,43 +13,25 @@ pub returns-in_err-outputs-clause-inputs : goal.returns-in_err-outputs-clause-in
 returns-in_err-outputs-clause-inputs g c = c.find_candidates.ensures.extends.inputs
 
 pub returns-in_err-outputs-clause-ended : goal.returns-in_err-outputs-clause-ended
-returns-in_err-outputs-clause-ended g c =
-    let s = c.args.self.now in
-    ended_by s.f.now c.args.database.now c.find_candidates.new.database c.args.checker.now c.args.checker.now s.definability.now s.may_ask
-    c.args.log.now c.find_candidates.new.log (c.find_candidates.ensures.went c.args.checker.now c.requires.search)
+returns-in_err-outputs-clause-ended g c = search (arith, ended_by)
 
 pub returns-in_err-outputs-clause-way : goal.returns-in_err-outputs-clause-way
-returns-in_err-outputs-clause-way g c other =
-    (c.find_candidates.ensures.went c.args.checker.now c.requires.search).way
+returns-in_err-outputs-clause-way g c other = search arith
 
 pub returns-in_err-outputs-clause-rows : goal.returns-in_err-outputs-clause-rows
 returns-in_err-outputs-clause-rows g c other = c.find_candidates.ensures.rows
 
 pub returns-in_err-outputs-clause-stopped : goal.returns-in_err-outputs-clause-stopped
-returns-in_err-outputs-clause-stopped g c =
-    let s = c.in_err-outputs.ensures.stopped in
-    record {
-      undecided = on_err _ s.undecided;
-      limit = λ is.
-          let stop : c.in_err-outputs.field-0.0 ≡ Limit = search rules in
-          s.limit (ap (λ e. Err e) stop);
-      rows = λ is.
-          let stop : c.in_err-outputs.field-0.0 ≡ Limit = search rules in
-          s.rows (ap (λ e. Err e) stop);
-    }
+returns-in_err-outputs-clause-stopped g c = search (arith, on_err)
 
 pub returns-in-Refuted-clause-inputs : goal.returns-in-Refuted-clause-inputs
 returns-in-Refuted-clause-inputs g c = c.find_candidates.ensures.extends.inputs
 
 pub returns-in-Refuted-clause-ended : goal.returns-in-Refuted-clause-ended
-returns-in-Refuted-clause-ended g c =
-    let s = c.args.self.now in
-    ended_by s.f.now c.args.database.now c.find_candidates.new.database c.args.checker.now c.args.checker.now s.definability.now s.may_ask
-    c.args.log.now c.find_candidates.new.log (c.find_candidates.ensures.went c.args.checker.now c.requires.search)
+returns-in-Refuted-clause-ended g c = search (arith, ended_by)
 
 pub returns-in-Refuted-clause-way : goal.returns-in-Refuted-clause-way
-returns-in-Refuted-clause-way g c other =
-    (c.find_candidates.ensures.went c.args.checker.now c.requires.search).way
+returns-in-Refuted-clause-way g c other = search arith
 
 pub returns-in-Refuted-clause-rows : goal.returns-in-Refuted-clause-rows
 returns-in-Refuted-clause-rows g c other = c.find_candidates.ensures.rows
@@ -62,14 +43,10 @@ returns-in-Refuted-clause-shown_false g c id e =
     (c.find_candidates.ensures.refuted c.in-Refuted.id (c.in_ok-outputs.was ∙ ap Ok c.in-Refuted.is))
 
 pub judge-requires-clause-search : goal.judge-requires-clause-search
-judge-requires-clause-search g c =
-    (c.find_candidates.ensures.proposed c.args.checker.now c.in-Candidates.outputs c.requires.search
-    (c.in_ok-outputs.was ∙ ap Ok c.in-Candidates.is)).search
+judge-requires-clause-search g c = search arith
 
 pub judge-requires-clause-candidates : goal.judge-requires-clause-candidates
-judge-requires-clause-candidates g c =
-    (c.find_candidates.ensures.proposed c.args.checker.now c.in-Candidates.outputs c.requires.search
-    (c.in_ok-outputs.was ∙ ap Ok c.in-Candidates.is)).candidates
+judge-requires-clause-candidates g c = search arith
 
 pub returns-in_err-id-clause-ended : goal.returns-in_err-id-clause-ended
 returns-in_err-id-clause-ended g c =
@@ -85,22 +62,10 @@ pub returns-in_err-id-clause-way : goal.returns-in_err-id-clause-way
 returns-in_err-id-clause-way g c other = c.judge.ensures.went.way
 
 pub returns-in_err-id-clause-stopped : goal.returns-in_err-id-clause-stopped
-returns-in_err-id-clause-stopped g c =
-    let s = c.in_err-id.ensures.stopped in
-    record {
-      undecided = on_err _ s.undecided;
-      limit = λ is.
-          let stop : c.in_err-id.field-0.0 ≡ Limit = search rules in
-          s.limit (ap (λ e. Err e) stop);
-      rows = λ is.
-          let stop : c.in_err-id.field-0.0 ≡ Limit = search rules in
-          s.rows (ap (λ e. Err e) stop);
-    }
+returns-in_err-id-clause-stopped g c = search (arith, on_err)
 
 pub returns-in_err-id-clause-rows : goal.returns-in_err-id-clause-rows
-returns-in_err-id-clause-rows g c other =
-    (c.in_err-id.ensures.stopped).rows
-    (ap (λ e. Err e) (stop_left c.in_err-id.field-0.0 (λ is. other (search rules))))
+returns-in_err-id-clause-rows g c other = search (arith, stop_left)
 
 pub returns-in-Hold-clause-ended : goal.returns-in-Hold-clause-ended
 returns-in-Hold-clause-ended g c =
@@ -128,21 +93,16 @@ returns-in-Hold-clause-shown_true g c nodes id e =
     (c.judge.ensures.hold c.in-Hold.id (c.in_ok-id.was ∙ ap Ok c.in-Hold.is)))
 
 pub add_row-requires-clause-database : goal.add_row-requires-clause-database
-add_row-requires-clause-database g c =
-    (c.judge.ensures.fail c.in-Fail.row (c.in_ok-id.was ∙ ap Ok c.in-Fail.is)).logged.way.database
+add_row-requires-clause-database g c = search arith
 
 pub add_row-requires-clause-rows : goal.add_row-requires-clause-rows
-add_row-requires-clause-rows g c =
-    (c.judge.ensures.fail c.in-Fail.row (c.in_ok-id.was ∙ ap Ok c.in-Fail.is)).logged.rows
+add_row-requires-clause-rows g c = search arith
 
 pub add_row-requires-clause-row_length : goal.add_row-requires-clause-row_length
-add_row-requires-clause-row_length g c =
-    let round = c.judge.ensures.fail c.in-Fail.row (c.in_ok-id.was ∙ ap Ok c.in-Fail.is) in
-    round.logged.row_length ∙ ap (λ f. length f.universals) round.logged.way.now_is
+add_row-requires-clause-row_length g c = search arith
 
 pub add_row-requires-clause-few : goal.add_row-requires-clause-few
-add_row-requires-clause-few g c =
-    (c.judge.ensures.fail c.in-Fail.row (c.in_ok-id.was ∙ ap Ok c.in-Fail.is)).logged.way.faults
+add_row-requires-clause-few g c = search arith
 
 pub returns-in_err-add_row-in-Fail-clause-ended : goal.returns-in_err-add_row-in-Fail-clause-ended
 returns-in_err-add_row-in-Fail-clause-ended g c =
@@ -158,16 +118,7 @@ returns-in_err-add_row-in-Fail-clause-ended g c =
     s.may_ask c.args.log.now c.judge.new.log judged) round.logged c.add_row.ensures.grew c.add_row.ensures.same
 
 pub returns-in_err-add_row-in-Fail-clause-stopped : goal.returns-in_err-add_row-in-Fail-clause-stopped
-returns-in_err-add_row-in-Fail-clause-stopped g c =
-    let s = c.args.self.now in
-    let round = c.judge.ensures.fail c.in-Fail.row (c.in_ok-id.was ∙ ap Ok c.in-Fail.is) in
-    record {
-      undecided = on_err _ (row_undecided c.instances_leave_logs.ensures s.f.now
-          c.find_candidates.new.database c.add_row.new.self c.judge.new.checker s.definability.now s.may_ask c.in-Fail.row
-          c.judge.new.log c.add_row.new.log round.logged c.add_row.ensures.grew c.add_row.ensures.same);
-      limit = search rules;
-      rows = search rules;
-    }
+returns-in_err-add_row-in-Fail-clause-stopped g c = search (arith, on_err, row_undecided)
 
 pub returns-in_ok-add_row-in-Fail-clause-open : goal.returns-in_ok-add_row-in-Fail-clause-open
 returns-in_ok-add_row-in-Fail-clause-open g c e =
@@ -187,9 +138,7 @@ returns-in_ok-add_row-in-Fail-clause-open g c e =
     record {
       search = next.1;
       known_there = proposed.known;
-      went = went_then s.f.now c.args.database.now c.find_candidates.new.database c.add_row.new.self c.args.checker.now
-          c.judge.new.checker c.judge.new.checker s.definability.now s.may_ask c.args.log.now c.judge.new.log c.add_row.new.log
-          judged next.0.went;
+      went = search (arith, went_then);
       step = fewer_left c.args.log.now c.find_candidates.new.log c.judge.new.log c.add_row.new.log found.grew left.grew
           c.judge.ensures.went.grew round.step round.within;
     }

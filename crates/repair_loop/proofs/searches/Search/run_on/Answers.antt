@@ -1,17 +1,12 @@
-use Rattle.std.proofs.Common.{rules, ◌≡◌, ◌∙◌, refl, ap, true, Err}
+use Rattle.std.proofs.Common.{◌∙◌, refl, true, arith}
 use Rattle.list_laws.proofs.Results.{on_err}
-use Rattle.hint_log.specs.declared.stops.Stop.TheVariants.{Limit}
 use Rattle.repair_loop.proofs.LogGrowth.{log_then}
 use Rattle.repair_loop.proofs.Stops.{by_lemma}
 use Rattle.repair_loop.proofs.Turned.{ended_by, left_search}
 use Rattle.repair_loop.proofs.searches.Search.run_on.Goals as goal
 
 pub find_known-requires-clause-may : goal.find_known-requires-clause-may
-find_known-requires-clause-may g c = record {
-  formula = c.requires.search.here.way.formula;
-  definability = c.requires.search.here.way.copied c.requires.ready;
-  inputs = c.requires.search.inputs;
-}
+find_known-requires-clause-may g c = search arith
 
 pub returns-in_err-known-clause-inputs : goal.returns-in_err-known-clause-inputs
 returns-in_err-known-clause-inputs g c = c.find_known.ensures.asked.extends.inputs
@@ -49,9 +44,7 @@ returns-in_err-known-clause-stopped g c =
     c.find_known.new.log asked.grew (λ on. asked.may.definability) c.requires.search.here.way in
     record {
       undecided = on_err _ (left.0.undecided refl c.requires.search.here.undecided);
-      limit = λ is.
-          let stop : c.in_err-known.field-0.0 ≡ Limit = search rules in
-          by_lemma s.f.now c.find_known.new.log (c.in_err-known.ensures.limit (ap (λ e. Err e) stop));
+      limit = search (arith, by_lemma);
       rows = λ is. left.0.rows ∙ c.requires.search.here.rows;
     }
 
