@@ -1,5 +1,5 @@
 -- The canonical text of a circuit file that some text can spell spells it.
-use Rattle.std.proofs.Common.{◌≡◌, ℕ, List, [], ◌∷◌, ◌++◌, map, ◌∙◌, ap, ap₂, append_assoc}
+use Rattle.std.proofs.Common.{◌≡◌, ℕ, List, ◌∷◌, ◌++◌, map, ◌∙◌, ap, append_assoc, arith}
 use Rattle.dq_text.specs.Line.{TextLine, lines_from}
 use Rattle.aiger_text.specs.Canonical.{comment_text, canonical_circuit}
 use Rattle.aiger_text.specs.Grammar.{SpellsCircuit}
@@ -20,11 +20,7 @@ abbrev behind_header : AagFile → List ℕ
 behind_header file = joined_lines (netlist_texts file.circuit) ++ behind_netlist file
 
 canonical_is : (file : AagFile) → canonical_circuit file ≡ header_words file.circuit ++ 10 ∷ behind_header file
-canonical_is file =
-    ap₂ (λ xs ys. xs ++ ys) (header_is_line file.circuit)
-    (ap₂ (λ xs ys. xs ++ ys) (netlist_joined file.circuit) (symbols_joined file.symbols.inputs file.symbols.outputs
-    (comment_text file.comment)))
-    ∙ append_assoc (header_words file.circuit) (10 ∷ []) (behind_header file)
+canonical_is file = search (arith, header_is_line, netlist_joined, symbols_joined, append_assoc)
 
 lines_are : (file : AagFile) (is : IsSpellable file) →
     let after = number_after 2 (netlist_texts file.circuit) in

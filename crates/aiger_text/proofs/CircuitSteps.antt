@@ -1,6 +1,6 @@
 -- The comment's mark, where the file names only what it defines and has no cycle.
-use Rattle.std.proofs.Common.{◌≡◌, ℕ, ◌+◌, List, Option, None, Some, Ok, refl, sym, ◌∙◌, ap}
-use Rattle.aiger_text.specs.Scan.{Body, IsAagReading, checked_file, finish, read_body, undefined_line, unless_undefined}
+use Rattle.std.proofs.Common.{◌≡◌, ℕ, List, Option, None, Some, Ok, arith}
+use Rattle.aiger_text.specs.Scan.{Body, IsAagReading, checked_file, finish, undefined_line, unless_undefined}
 use Rattle.aiger_text.specs.Steps.{EndsAtMark}
 use Rattle.aiger_text.specs.declared.files.AagFile.{AagFile}
 use Rattle.aiger_text.specs.declared.reader.Taken.TheVariants.{CommentMark}
@@ -18,8 +18,4 @@ whole h b (Some line) is read = absurd read
 pub mark_taken : (old new : Body) (number : ℕ) (text : List ℕ) → EndsAtMark old text new →
     IsAagReading new.header_line (finish new None) (checked_file new None (Ok tt)) →
     TakesBehind old number text (Ok CommentMark) new
-mark_taken old new number text mark checked = (
-  λ behind lines. mark.ends number behind (λ c. read_body c lines (number + 1))
-      ∙ ap (λ b. finish b (Some behind)) (sym mark.same),
-  whole new.header_line new (undefined_line new) refl checked,
-)
+mark_taken old new number text mark checked = search arith

@@ -1,6 +1,6 @@
 -- A file that names only what it defines.
 use Rattle.std.proofs.Common.{◌≡◌, ℕ, ◌<◌, ◌/◌, ◌==◌, nat_lt, get_or, Bool, true, false, not, cond, inl, inr, List, length, All, Option, Some, None, Ok, refl, sym, ◌∙◌, ap, arith}
-use Rattle.std.specs.List.{list_any, position, position_or_len}
+use Rattle.std.specs.List.{position}
 use Rattle.std.proofs.lemmas.Bool.{and_from, and_parts, or_left, or_right, or_cases, eq-eqb, eqb-true, not-false, ltb-false}
 use Rattle.std.proofs.lemmas.List.Sums.{fails_before_first}
 use Rattle.circuit_plain.proofs.NetlistLaws.{found_among, found_gate}
@@ -24,18 +24,10 @@ stands_from net l (inl constant) = or_left (l / 2 == 0) (is_defined net (l / 2))
 stands_from net l (inr defined) = or_right (l / 2 == 0) (is_defined net (l / 2)) (defined_is net (l / 2) defined)
 
 is_defined_is : (net : Netlist) (v : ℕ) → is_defined net v ≡ true → IsDefined net v
-is_defined_is net v h =
-    elim (or_cases (list_any (λ x. x == v) net.inputs) (list_any (λ g. g.variable == v) net.gates) h) [
-      | inl input ↦ inl ((found_among v net.inputs).0 input)
-      | inr gate ↦ inr ((found_gate net v net.gates refl).0 gate)
-    ]
+is_defined_is net v h = search (arith, or_cases, (found_among v net.inputs), (found_gate net v net.gates))
 
 stands_is : (net : Netlist) (l : ℕ) → stands_on_defined net l ≡ true → HasMeaning net l
-stands_is net l h =
-    elim (or_cases (l / 2 == 0) (is_defined net (l / 2)) h) [
-      | inl constant ↦ inl (eqb-true (l / 2) 0 constant)
-      | inr defined ↦ inr (is_defined_is net (l / 2) defined)
-    ]
+stands_is net l h = search (arith, or_cases, eqb-true, is_defined_is)
 
 pub finish_from : (b : Body) (comment : Option (List ℕ)) → All (HasMeaning b.netlist) b.netlist.outputs →
     All (GateHasMeaning b.netlist) b.netlist.gates →
@@ -59,10 +51,7 @@ none_test false n h = refl
 
 pub none_passes : {X : Type 0} (p : X → Bool) (xs : List X) → position p xs ≡ None → (k : ℕ) (d : X) → k < length xs →
     p (get_or xs k d) ≡ false
-none_passes p xs none k d below =
-    let far = ltb-false (position_or_len p xs) (length xs) (none_test (nat_lt (position_or_len p xs) (length xs))
-    (position_or_len p xs) none) in
-    fails_before_first p xs k d (omega arith)
+none_passes p xs none k d below = search (arith, ltb-false, none_test, nat_lt, fails_before_first)
 
 -- what a file that is finished says
 pub record IsFinished (b : Body) (comment : Option (List ℕ)) (file : AagFile) : Type 0 where

@@ -1,5 +1,5 @@
 -- A text has a file or a first fault, never both, and one of its kind.
-use Rattle.std.proofs.Common.{◌≡◌, ℕ, ◌+◌, ◌⊎◌, length, inl, inr, List, Result, Ok, Err, refl, sym, ◌∙◌, ap, subst}
+use Rattle.std.proofs.Common.{◌≡◌, ℕ, ◌+◌, ◌⊎◌, length, inl, inr, List, Result, Ok, Err, refl, sym, ◌∙◌, ap, subst, arith}
 use Rattle.std.proofs.lemmas.Bool.{cases_order}
 use Rattle.circuit_plain.specs.Ground.{IsFirstUngrounded}
 use Rattle.circuit_plain.specs.Netlist.{Netlist}
@@ -81,17 +81,11 @@ same_fault : (line : ℕ) (name : AagFault) (other_line : ℕ) (other_name : Aag
     name ≡ other_name →
     let f : LineFault = record { line = line; name = name } in let g : LineFault =
     record { line = other_line; name = other_name } in f ≡ g
-same_fault line name other_line other_name lines names =
-    ap (λ l. record { line = l; name = name }) lines ∙ ap (λ n. record { line = other_line; name = n }) names
+same_fault line name other_line other_name lines names = search arith
 
 pub one_fault : (text : List ℕ) (first : ℕ) (f g : LineFault) → IsFirstFault text first f →
     IsFirstFault text first g → f ≡ g
 one_fault text first f g (inl one) (inl other) = let same : Err f ≡ Err g = sym one ∙ other in cc
 one_fault text first f g (inl one) (inr other) = let both = sym one ∙ other.scanned in cc
 one_fault text first f g (inr one) (inl other) = let both = sym other ∙ one.scanned in cc
-one_fault text first f g (inr one) (inr other) =
-    let same : one.file ≡ other.file = one_file text first one.file other.file one.scanned other.scanned in
-    let here : IsCyclicAt first other.file.circuit f.line = subst
-    (λ (x : AagFile). IsCyclicAt first x.circuit f.line) same one.at_line in
-    same_fault f.line f.name g.line g.name (one_line first other.file.circuit f.line g.line here other.at_line)
-    (one.cyclic ∙ sym other.cyclic)
+one_fault text first f g (inr one) (inr other) = search (arith, one_file, same_fault)

@@ -1,5 +1,5 @@
 -- Whether every gate is in the least set is decided: gates join it as long as one can.
-use Rattle.std.proofs.Common.{◌≡◌, ℕ, zero, suc, ◌<◌, ◌≤◌, ◌==◌, ◌⊎◌, get_or, Bool, true, false, not, cond, ◌&&◌, ◌||◌, inl, inr, List, [], ◌∷◌, length, All, Option, Some, None, refl, sym, ◌∙◌, ap, arith, subst}
+use Rattle.std.proofs.Common.{◌≡◌, ℕ, zero, suc, ◌<◌, ◌≤◌, ◌==◌, ◌⊎◌, get_or, Bool, true, false, not, cond, ◌&&◌, ◌||◌, inl, inr, List, [], ◌∷◌, length, All, Option, Some, None, refl, arith}
 use Rattle.std.specs.List.{list_any, position}
 use Rattle.std.proofs.lemmas.Bool.{and_from, and_parts, and_cases, or_left, or_right, or_cases, not-true, not-false, eq-eqb, eqb-true, cases_Bool, both_ways, cond-true, cond-false}
 use Rattle.std.proofs.lemmas.List.Elements.{All-contains, All-cons, Contains-get_or}
@@ -25,55 +25,30 @@ module _ (net : Netlist) where
   left_out vs (g ∷ gs) = cond (settled vs g.variable) (left_out vs gs) (suc (left_out vs gs))
 
   settled_more : (w : ℕ) (vs : List ℕ) (v : ℕ) → settled vs v ≡ true → settled (w ∷ vs) v ≡ true
-  settled_more w vs v h =
-      let zero_test = v == 0 in
-      let among = list_any (λ x. x == v) net.inputs in
-      let listed = list_any (λ x. x == v) vs in
-      elim (or_cases zero_test (among || listed) h) [
-        | inl none ↦ or_left zero_test (among || ((w == v) || listed)) none
-        | inr more ↦ or_right zero_test (among || ((w == v) || listed))
-            (elim (or_cases among listed more) [
-              | inl here ↦ or_left among ((w == v) || listed) here
-              | inr there ↦ or_right among ((w == v) || listed) (or_right (w == v) listed there)
-            ])
-      ]
+  settled_more w vs v h = search (arith, or_cases, or_left, or_right)
 
   settled_new : (w : ℕ) (vs : List ℕ) → settled (w ∷ vs) w ≡ true
-  settled_new w vs =
-      let listed = list_any (λ x. x == w) vs in
-      let among = list_any (λ x. x == w) net.inputs in
-      or_right (w == 0) (among || ((w == w) || listed)) (or_right among ((w == w) || listed)
-      (or_left (w == w) listed (eq-eqb w w refl)))
+  settled_new w vs = search (arith, or_right, or_left, eq-eqb)
 
   settled_grounded : (vs : List ℕ) → All (IsGrounded net) vs → (v : ℕ) → settled vs v ≡ true → IsGrounded net v
   settled_grounded vs grounded v h =
-      elim (or_cases (v == 0) (list_any (λ x. x == v) net.inputs || list_any (λ x. x == v) vs) h) [
-        | inl none ↦ subst (IsGrounded net) (sym (eqb-true v 0 none)) constant
-        | inr more ↦
-            elim (or_cases (list_any (λ x. x == v) net.inputs) (list_any (λ x. x == v) vs) more) [
-              | inl here ↦ input ((found_among v net.inputs).0 here)
-              | inr there ↦ All-contains (IsGrounded net) vs v grounded ((found_among v vs).0 there)
-            ]
-      ]
+      search (arith, or_cases, eqb-true, found_among, All-contains, list_any, constant, input)
 
   -- where no gate can join, nothing else is in the least set
   grounded_settled : (vs : List ℕ) → position (can_join vs) net.gates ≡ None → {v : ℕ} → IsGrounded net v →
       settled vs v ≡ true
   grounded_settled vs closed constant = refl
-  grounded_settled vs closed (input {v = v} i) =
-      let among = list_any (λ x. x == v) net.inputs in
-      let listed = list_any (λ x. x == v) vs in
-      or_right (v == 0) (among || listed) (or_left among listed ((found_among v net.inputs).1 i))
+  grounded_settled vs closed (input {v = v} i) = search (arith, or_right, or_left, found_among)
   grounded_settled vs closed (gate g (k, k_in, is) p q) =
-      let stays : can_join vs g ≡ false = ap (can_join vs) (sym is) ∙ none_passes
-      (can_join vs) net.gates closed k g k_in in
-      let sides = and_from (settled vs (left_variable g)) (settled vs (right_variable g)) (grounded_settled vs closed p)
-      (grounded_settled vs closed q) in
-      elim (and_cases (not (settled vs g.variable)) (settled vs (left_variable g) && settled vs (right_variable g))
-      stays) [
-        | inl put ↦ not-false (settled vs g.variable) put
-        | inr off ↦ absurd (both_ways (settled vs (left_variable g) && settled vs (right_variable g)) off sides)
-      ]
+      search (
+        arith,
+        none_passes,
+        and_from,
+        (grounded_settled vs closed p),
+        (grounded_settled vs closed q),
+        and_cases,
+        not-false,
+      )
 
   no_more : (w : ℕ) (vs : List ℕ) (gs : List Gate) → left_out (w ∷ vs) gs ≤ left_out vs gs
   no_more w vs [] = omega arith

@@ -1,12 +1,11 @@
 -- Which file is read doesn't depend on the number of the first line.
-use Rattle.std.proofs.Common.{◌≡◌, ℕ, ◌+◌, ◌==◌, Bool, true, false, not, cond, inl, inr, List, [], ◌∷◌, Option, Some, None, Result, Ok, Err, refl, sym, ◌∙◌, ap, ap₂, subst}
-use Rattle.std.specs.List.{AllZip, position}
+use Rattle.std.proofs.Common.{◌≡◌, ℕ, ◌+◌, Bool, true, false, cond, List, [], ◌∷◌, Option, Some, None, Result, Ok, Err, refl, sym, ◌∙◌, ap, ap₂, arith}
+use Rattle.std.specs.List.{AllZip}
 use Rattle.std.proofs.lemmas.Bool.{cases_Bool}
 use Rattle.circuit_plain.specs.Netlist.{Netlist}
 use Rattle.dq_text.specs.Line.{TextLine, line_tokens, extend_line, lines_from}
-use Rattle.dq_text.specs.BlankLine.{is_blank_line}
-use Rattle.aiger_text.specs.Lines.{header_of, numbers_of, input_line, output_line, gate_line, symbol_of, symbol_line, begins_comment}
-use Rattle.aiger_text.specs.Scan.{Body, LineFault, next_part, start, go_on, with_symbol, stands_on_defined, reads_defined, or_gate, unless_undefined, finish, read_line, at_end, behind_header, read_lines, read_body, scan}
+use Rattle.aiger_text.specs.Lines.{header_of}
+use Rattle.aiger_text.specs.Scan.{Body, LineFault, next_part, start, go_on, with_symbol, or_gate, unless_undefined, finish, read_line, at_end, behind_header, read_lines, read_body, scan}
 use Rattle.aiger_text.specs.Symbol.{SymbolTable}
 use Rattle.aiger_text.specs.declared.headers.Header.{Header}
 use Rattle.aiger_text.specs.declared.files.AagFile.{AagFile}
@@ -24,32 +23,12 @@ extend_same : (byte n m : ℕ) (ks ls : List TextLine) → AllZip SameLine ks ls
 extend_same byte n m [] [] same = (record { text = refl; behind = refl }, tt)
 extend_same byte n m [] (l ∷ ls) same = absurd same
 extend_same byte n m (k ∷ ks) [] same = absurd same
-extend_same byte n m (k ∷ ks) (l ∷ ls) same = (
-  record {
-    text = ap (λ t. byte ∷ t) same.0.text;
-    behind =
-        same.0.behind;
-  },
-  same.1,
-)
+extend_same byte n m (k ∷ ks) (l ∷ ls) same = search arith
 
 lines_same : (text : List ℕ) (n m : ℕ) → AllZip SameLine (lines_from n text) (lines_from m text)
 lines_same [] n m = tt
 lines_same (byte ∷ bytes) n m =
-    elim (cases_Bool (byte == 10)) [
-      | inl feed ↦
-          subst (λ b. AllZip SameLine (cond b (record { text = []; number = n; behind = bytes } ∷ lines_from
-          (n + 1) bytes) (extend_line byte n (lines_from n bytes)))
-          (cond b (record { text = []; number = m; behind = bytes } ∷ lines_from (m + 1) bytes)
-          (extend_line byte m (lines_from m bytes)))) (sym feed)
-          (record { text = refl; behind = refl }, lines_same bytes (n + 1) (m + 1))
-      | inr other ↦
-          subst (λ b. AllZip SameLine (cond b (record { text = []; number = n; behind = bytes } ∷ lines_from
-          (n + 1) bytes) (extend_line byte n (lines_from n bytes)))
-          (cond b (record { text = []; number = m; behind = bytes } ∷ lines_from (m + 1) bytes)
-          (extend_line byte m (lines_from m bytes)))) (sym other)
-          (extend_same byte n m (lines_from n bytes) (lines_from m bytes) (lines_same bytes n m))
-    ]
+    search (arith, cases_Bool, (lines_same bytes (n + 1) (m + 1)), extend_same, (lines_same bytes n m))
 
 -- a body behind a header on another line
 abbrev relined : ℕ → Body → Body
@@ -65,10 +44,7 @@ module _ (file : AagFile) (line : ℕ) where
 
   finish_same : (b : Body) (comment : Option (List ℕ)) → finish b comment ≡ Ok file →
       finish (relined line b) comment ≡ Ok file
-  finish_same b comment read =
-      unless_same b (position (λ l. not (stands_on_defined b.netlist l)) b.netlist.outputs)
-      (position (λ g. not (reads_defined b.netlist g)) b.netlist.gates)
-      (record { circuit = b.netlist; symbols = b.symbols; comment = comment }) read
+  finish_same b comment read = search (arith, unless_same)
 
   end_same : (part : NextLine) (b : Body) (n m : ℕ) → at_end part b n ≡ Ok file → at_end part (relined line b) m ≡ Ok file
   end_same InputLine b n m read = cc
@@ -105,15 +81,10 @@ module _ (file : AagFile) (line : ℕ) where
       GoesOnAs next other →
       read_line part b (record { text = text; number = n; behind = behind }) next ≡ Ok file →
       read_line part (relined line b) (record { text = text; number = m; behind = behind }) other ≡ Ok file
-  line_same InputLine b text behind n m next other goes read =
-      netlist_same n m b (input_line b.netlist (numbers_of (line_tokens text))) next other goes read
-  line_same OutputLine b text behind n m next other goes read =
-      netlist_same n m b (output_line b.netlist (numbers_of (line_tokens text))) next other goes read
-  line_same GateLine b text behind n m next other goes read =
-      netlist_same n m b (gate_line b.netlist (numbers_of (line_tokens text))) next other goes read
-  line_same SymbolLine b text behind n m next other goes read =
-      choice_same (is_blank_line text) (begins_comment text) n m b
-      (symbol_line b.header b.symbols (symbol_of text)) behind next other goes read
+  line_same InputLine b text behind n m next other goes read = search (arith, netlist_same)
+  line_same OutputLine b text behind n m next other goes read = search (arith, netlist_same)
+  line_same GateLine b text behind n m next other goes read = search (arith, netlist_same)
+  line_same SymbolLine b text behind n m next other goes read = search (arith, choice_same)
 
   body_same : (ks ls : List TextLine) → AllZip SameLine ks ls → (b : Body) (n m : ℕ) → read_body b ks n ≡ Ok file →
       read_body (relined line b) ls m ≡ Ok file

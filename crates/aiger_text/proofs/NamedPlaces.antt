@@ -10,12 +10,10 @@ use Rattle.number_tables.specs.Numbers.{has_number, place_of}
 same_first : (place : ℕ) (places : List ℕ) →
     position_or_len (λ p. p == place) places ≡ position_or_len (nat_eq place) places
 same_first place [] = refl
-same_first place (p ∷ places) =
-    ap₂ (λ b n. cond (not b) (1 + n) 0) (nat_eq_equiv.symm p place) (same_first place places)
+same_first place (p ∷ places) = search (arith, (same_first place places))
 
 pub same_place : (place : ℕ) (places : List ℕ) → place_of places place ≡ position (nat_eq place) places
-same_place place places =
-    ap (λ n. cond (nat_lt n (length places)) (Some n) None) (same_first place places)
+same_place place places = search (arith, nat_lt, same_first)
 
 pub same_presence : (place : ℕ) (places : List ℕ) → has_number places place ≡ list_any (nat_eq place) places
 same_presence place [] = refl
@@ -43,9 +41,7 @@ pub found_at : (places : List ℕ) (names : List (List ℕ)) (place : ℕ) → l
     (Some (get_or names (position_or_len (nat_eq place) places) [])) None
 found_at [] names place same = refl
 found_at (p ∷ places) [] place same = absurd (omega (arith, same))
-found_at (p ∷ places) (name ∷ names) place same =
-    step (nat_eq place p) name names (lookup (nat_eq place) (zip places names))
-    (position_or_len (nat_eq place) places) (length places) (found_at places names place (omega (arith, same)))
+found_at (p ∷ places) (name ∷ names) place same = search (arith, nat_eq, (found_at places names place))
 
 absent_here : (b : Bool) (name : List ℕ) (rest : Option (List ℕ)) → cond b (Some name) rest ≡ None →
     (b ≡ false) × (rest ≡ None)
@@ -58,9 +54,7 @@ pub no_place : (places : List ℕ) (names : List (List ℕ)) (place : ℕ) → l
 no_place [] names place same none = refl
 no_place (p ∷ places) [] place same none = absurd (omega (arith, same))
 no_place (p ∷ places) (name ∷ names) place same none =
-    let parts = absent_here (nat_eq place p) name (lookup (nat_eq place) (zip places names)) none in
-    ap (λ b. b || list_any (nat_eq place) places) parts.0
-    ∙ no_place places names place (omega (arith, same)) parts.1
+    search (arith, absent_here, nat_eq, (no_place places names place))
 
 -- one name more, behind the others
 pub zip_more : (places : List ℕ) (names : List (List ℕ)) (place : ℕ) (name : List ℕ) →
@@ -69,8 +63,7 @@ pub zip_more : (places : List ℕ) (names : List (List ℕ)) (place : ℕ) (name
 zip_more [] [] place name same = refl
 zip_more [] (n ∷ names) place name same = absurd (omega (arith, same))
 zip_more (p ∷ places) [] place name same = absurd (omega (arith, same))
-zip_more (p ∷ places) (n ∷ names) place name same =
-    ap (λ rest. (p, n) ∷ rest) (zip_more places names place name (omega (arith, same)))
+zip_more (p ∷ places) (n ∷ names) place name same = search (arith, (zip_more places names place name))
 
 pub zip_long : (places : List ℕ) (names : List (List ℕ)) → length places ≡ length names →
     length (zip places names) ≡ length names
@@ -94,22 +87,13 @@ at_none false at name h = refl
 
 at_some : (b : Bool) (at i : ℕ) (names : List (List ℕ)) → cond b (Some at) None ≡ Some i →
     cond b (Some (get_or names at [])) None ≡ Some (get_or names i [])
-at_some true at i names h =
-    let e : Some at ≡ Some i = h in
-    let same : at ≡ i = cc in
-    ap (λ n. Some (get_or names n [])) same
+at_some true at i names h = search arith
 at_some false at i names h = let e : None ≡ Some i = h in cc
 
 pub named_none : (places : List ℕ) (names : List (List ℕ)) (place : ℕ) → length places ≡ length names →
     position (nat_eq place) places ≡ None → lookup (nat_eq place) (zip places names) ≡ None
-named_none places names place same h =
-    found_at places names place same
-    ∙ at_none (nat_lt (position_or_len (nat_eq place) places) (length places)) (position_or_len (nat_eq place) places)
-    (get_or names (position_or_len (nat_eq place) places) []) h
+named_none places names place same h = search (arith, found_at, at_none, nat_lt, nat_eq)
 
 pub named_some : (places : List ℕ) (names : List (List ℕ)) (place i : ℕ) → length places ≡ length names →
     position (nat_eq place) places ≡ Some i → lookup (nat_eq place) (zip places names) ≡ Some (get_or names i [])
-named_some places names place i same h =
-    found_at places names place same
-    ∙ at_some (nat_lt (position_or_len (nat_eq place) places) (length places)) (position_or_len (nat_eq place) places)
-    i names h
+named_some places names place i same h = search (arith, found_at, at_some, nat_lt, nat_eq)

@@ -1,11 +1,10 @@
 -- Tokens that are natural numbers, as a line's reader takes them and as the grammar spells them.
-use Rattle.std.proofs.Common.{◌≡◌, ℕ, ◌<◌, ◌^◌, pos, true, List, [], ◌∷◌, map, Option, None, Some, refl, sym, ◌∙◌, ap, ap₂, subst, option_and_then, option_map}
+use Rattle.std.proofs.Common.{◌≡◌, ℕ, ◌<◌, ◌^◌, pos, true, List, [], ◌∷◌, map, Option, None, Some, refl, sym, ◌∙◌, ap, ap₂, subst, option_and_then, option_map, arith}
 use Rattle.std.specs.List.{AllByRecursion}
 use Rattle.dq_text.proofs.Naturals.{natural_spelled, natural_taken}
 use Rattle.dq_text.specs.BlankLine.{has_no_token, is_blank_line}
 use Rattle.dq_text.specs.Line.{line_tokens}
 use Rattle.dq_text.specs.Number.{natural_of, number_of}
-use Rattle.dq_text.specs.declared.numbers.Number.TheVariants.{Int}
 use Rattle.aiger_text.specs.Grammar.{naturals}
 use Rattle.aiger_text.specs.Lines.{numbers_of}
 
@@ -33,12 +32,7 @@ pub numbers_from : (tokens : List (List ℕ)) (ns : List ℕ) → map number_of 
 numbers_from [] [] h = refl
 numbers_from [] (n ∷ ns) h = cc
 numbers_from (token ∷ tokens) [] h = cc
-numbers_from (token ∷ tokens) (n ∷ ns) h =
-    let head : number_of token ≡ Int (pos n) = cc in
-    let tail : map number_of tokens ≡ naturals ns = cc in
-    let here : natural_of token ≡ Some n = natural_taken token n head in
-    ap (λ o. option_and_then (λ m. option_map (λ rest. m ∷ rest) (numbers_of tokens)) o) here
-    ∙ ap (λ os. option_map (λ rest. n ∷ rest) os) (numbers_from tokens ns tail)
+numbers_from (token ∷ tokens) (n ∷ ns) h = search (arith, pos, natural_taken, (numbers_from tokens ns))
 
 no_numbers : (tokens : List (List ℕ)) → has_no_token tokens ≡ true → map number_of tokens ≡ []
 no_numbers [] none = refl

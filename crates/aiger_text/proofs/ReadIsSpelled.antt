@@ -1,9 +1,9 @@
 -- What the walk over the lines reads, the grammar spells.
-use Rattle.std.proofs.Common.{◌≡◌, ℕ, ◌+◌, ◌≤◌, List, [], ◌∷◌, ◌++◌, length, map, Result, Ok, Err, refl, sym, ◌∙◌, ap, ap₂, arith, subst, append_assoc, codes}
+use Rattle.std.proofs.Common.{◌≡◌, ℕ, ◌+◌, ◌≤◌, List, [], ◌∷◌, ◌++◌, Result, Ok, Err, refl, sym, ◌∙◌, ap, arith, subst, append_assoc, codes}
 use Rattle.std.proofs.lemmas.List.{map-append}
 use Rattle.circuit_plain.specs.Netlist.{Netlist, IsNetlist}
 use Rattle.dq_text.specs.Line.{TextLine, line_tokens, lines_from}
-use Rattle.aiger_text.specs.Grammar.{line_numbers, input_numbers, output_numbers, gate_numbers, SpellsHeader, counts_in, AreNames, SpellsCircuit}
+use Rattle.aiger_text.specs.Grammar.{SpellsHeader, counts_in, AreNames, SpellsCircuit}
 use Rattle.aiger_text.specs.Lines.{max_count, header_of}
 use Rattle.aiger_text.specs.Scan.{Body, LineFault, start, behind_header, read_lines, read_body, scan, AllGrounded}
 use Rattle.aiger_text.specs.declared.headers.Header.{Header}
@@ -17,22 +17,10 @@ use Rattle.aiger_text.proofs.SpelledNetlist.{no_symbols, body_with}
 
 no_netlist : (h : Header) → h.max_var ≤ max_count → IsNetlist
     (record { max_var = h.max_var; inputs = []; outputs = []; gates = [] })
-no_netlist h few = record {
-  numbered = omega arith;
-  inputs_fit = λ k d below. absurd (omega arith);
-  outputs_fit = λ k d below. absurd (omega arith);
-  gates_fit = λ k d below. absurd (omega arith);
-  inputs_once = λ i j d before below. absurd (omega arith);
-  gates_once = λ i j d before below. absurd (omega arith);
-  apart = λ k d below. absurd (omega arith);
-}
+no_netlist h few = search arith
 
 pub no_names : (count : ℕ) → AreNames count []
-no_names count = record {
-  placed = λ k d below. absurd (omega arith);
-  once =
-      λ i j d before below. absurd (omega arith);
-}
+no_names count = search arith
 
 header_goes_on : (line : ℕ) (r : Result Header AagFault) (next : Body → Result AagFile LineFault) (file : AagFile) →
     behind_header line r next ≡ Ok file →
@@ -59,10 +47,7 @@ body_is_spelled text line lines h number file are header read acyclic =
     let net : Netlist = record { max_var = h.max_var; inputs = is; outputs = os; gates = gs } in
     let body = body_with line.number h symbols.table is os gs in
     let done = finish_is body symbols.comment file symbols.finished in
-    let counts : h ≡ counts_in net = sym
-    (ap (λ n. record { max_var = h.max_var; inputs = n; outputs = length os; gates = length gs }) inputs.counted
-    ∙ ap (λ n. record { max_var = h.max_var; inputs = h.inputs; outputs = n; gates = length gs }) outputs.counted
-    ∙ ap (λ n. record { max_var = h.max_var; inputs = h.inputs; outputs = h.outputs; gates = n }) gates.counted) in
+    let counts : h ≡ counts_in net = search arith in
     subst (SpellsCircuit text) (sym done.file_is) (record {
       header_line = line;
       netlist_lines = inputs.own ++ (outputs.own ++ gates.own);
@@ -73,11 +58,7 @@ body_is_spelled text line lines h number file are header read acyclic =
           (symbols.own ++ symbols.rest) lines inputs.rest outputs.rest gates.rest inputs.parted outputs.parted
           gates.parted symbols.parted);
       header = subst (SpellsHeader (codes "aag") line.text) counts header;
-      netlist = map-append line_numbers inputs.own (outputs.own ++ gates.own)
-          ∙ ap₂ (λ xs ys. xs ++ ys) (inputs.spelled ∙ ap (map input_numbers) inputs.whole)
-          (map-append line_numbers outputs.own gates.own
-          ∙ ap₂ (λ xs ys. xs ++ ys) (outputs.spelled ∙ ap (map output_numbers) outputs.whole)
-          (gates.spelled ∙ ap (map gate_numbers) gates.whole));
+      netlist = search (arith, map-append);
       symbols_spelled = symbols.spelled;
       comment = symbols.ends;
       lawful = gates.kept;

@@ -8,7 +8,7 @@ use Rattle.dq_text.specs.Line.{TextLine, line_tokens}
 use Rattle.aiger_text.specs.Grammar.{naturals, input_numbers, output_numbers, gate_numbers}
 use Rattle.aiger_text.specs.Lines.{is_too_big, is_positive, is_literal, is_defined, numbers_of, with_input, with_output, with_gate, input_of, output_of, gate_of, input_line, output_line, gate_line}
 use Rattle.aiger_text.specs.ReaderState.{IsNewVariable, IsNewGate}
-use Rattle.aiger_text.specs.Scan.{Body, LineFault, go_on, at_end, read_body}
+use Rattle.aiger_text.specs.Scan.{Body, LineFault, go_on, read_body}
 use Rattle.aiger_text.specs.declared.headers.Header.{Header}
 use Rattle.aiger_text.specs.declared.numbers.GateNumbers.{GateNumbers}
 use Rattle.aiger_text.specs.declared.files.AagFile.{AagFile}
@@ -118,11 +118,7 @@ reads_gate net made g h =
     let sides = or_parts (is_too_big g.left) (is_too_big g.right) first.1 in
     let same : added ≡ made = cc in
     record {
-      small = (
-        leb-false (10 ^ 18) g.lhs first.0,
-        leb-false (10 ^ 18) g.left sides.0,
-        leb-false (10 ^ 18) g.right sides.1,
-      );
+      small = search (arith, leb-false);
       in_range = not-false (gate_in_range net.max_var g) range.0;
       fresh = fresh.0;
       made_is = same;
@@ -168,9 +164,7 @@ module _ (header_line : ℕ) (h : Header) (file : AagFile) where
 
   input_ends : (done : List ℕ) (number : ℕ) → length done < h.inputs →
       read_body (with_inputs done) [] number ≡ Ok file → ⊥
-  input_ends done number below read =
-      let e = sym (ap (λ p. at_end p (with_inputs done) number) (at_input header_line h no_symbols done [] [] below))
-      ∙ read in cc
+  input_ends done number below read = search (arith, at_input)
 
   pub inputs_spelled : (lines : List TextLine) (number : ℕ) → IsNetlist (netlist_with [] [] []) →
       read_body (with_inputs []) lines number ≡ Ok file → ReadInputs lines
@@ -210,9 +204,7 @@ module _ (header_line : ℕ) (h : Header) (file : AagFile) where
 
     output_ends : (done : List ℕ) (number : ℕ) → length done < h.outputs →
         read_body (with_outputs done) [] number ≡ Ok file → ⊥
-    output_ends done number below read =
-        let e = sym (ap (λ p. at_end p (with_outputs done) number)
-        (at_output header_line h no_symbols is done [] all_inputs below)) ∙ read in cc
+    output_ends done number below read = search (arith, at_output)
 
     pub outputs_spelled : (lines : List TextLine) (number : ℕ) → IsNetlist (netlist_with is [] []) →
         read_body (with_outputs []) lines number ≡ Ok file → ReadOutputs lines
@@ -262,9 +254,7 @@ module _ (header_line : ℕ) (h : Header) (file : AagFile) where
 
       gate_ends : (done : List Gate) (number : ℕ) → length done < h.gates →
           read_body (with_gates done) [] number ≡ Ok file → ⊥
-      gate_ends done number below read =
-          let e = sym (ap (λ p. at_end p (with_gates done) number)
-          (at_gate header_line h no_symbols is os done all_inputs all_outputs below)) ∙ read in cc
+      gate_ends done number below read = search (arith, at_gate)
 
       pub gates_spelled : (lines : List TextLine) (number : ℕ) → IsNetlist (netlist_with is os []) →
           read_body (with_gates []) lines number ≡ Ok file → ReadGates lines

@@ -50,7 +50,5 @@ pub comment_stands : (result : Result ReadCircuit AagStop) (text : List ℕ) (fi
     IfOk result (λ r. r.file.comment ≡ Some comment) → IfOk result (λ r. r.comment_line ≡ Some line) →
     IsBehindMark text first comment line →
     IfOk result (λ r. IsCommentLine text first r.file.comment r.comment_line)
-comment_stands (Ok r) text first comment line comment_is line_is stands =
-    subst (λ c. IsCommentLine text first c r.comment_line) (sym comment_is)
-    (subst (λ l. IsCommentLine text first (Some comment) l) (sym line_is) stands)
+comment_stands (Ok r) text first comment line comment_is line_is stands = search arith
 comment_stands (Err stop) text first comment line comment_is line_is stands = tt

@@ -1,5 +1,5 @@
 -- Header lines, as their reader takes them and as the grammar spells them.
-use Rattle.std.proofs.Common.{◌≡◌, ℕ, zero, suc, ◌+◌, ◌≤◌, ◌==◌, nat_lt, Bool, true, false, not, cond, ◌||◌, List, [], ◌∷◌, length, replicate, map, Option, Some, None, Result, Ok, Err, refl, ◌∙◌, ap, ap₂, arith, subst}
+use Rattle.std.proofs.Common.{◌≡◌, ℕ, zero, suc, ◌+◌, ◌≤◌, ◌==◌, nat_lt, Bool, true, false, not, cond, ◌||◌, List, [], ◌∷◌, length, replicate, map, Option, Some, None, Result, Ok, Err, refl, ◌∙◌, ap, arith}
 use Rattle.std.specs.List.{list_any, AllByRecursion}
 use Rattle.std.specs.Str.{bytes_eq}
 use Rattle.std.proofs.lemmas.Bool.{or_from, or_parts, le-ltb, ltb-false, eqb-true, not-false, cond-true, cond-false}
@@ -16,8 +16,7 @@ use Rattle.aiger_text.proofs.NaturalTokens.{IsSmallNumber, numbers_are, numbers_
 
 zeros_small : (n : ℕ) → list_any (λ k. nat_lt max_count k) (replicate n 0) ≡ false
 zeros_small zero = refl
-zeros_small (suc n) = or_from (nat_lt max_count 0) (list_any (λ k. nat_lt max_count k) (replicate n 0)) refl
-    (zeros_small n)
+zeros_small (suc n) = search (arith, or_from, nat_lt, replicate, (zeros_small n))
 
 zeros_none : (n : ℕ) → list_any (λ k. not (k == 0)) (replicate n 0) ≡ false
 zeros_none zero = refl
@@ -25,9 +24,7 @@ zeros_none (suc n) = zeros_none n
 
 zeros_are : (ns : List ℕ) → list_any (λ k. not (k == 0)) ns ≡ false → ns ≡ replicate (length ns) 0
 zeros_are [] h = refl
-zeros_are (n ∷ ns) h =
-    let parts = or_parts (not (n == 0)) (list_any (λ k. not (k == 0)) ns) h in
-    ap₂ (λ k ks. k ∷ ks) (eqb-true n 0 (not-false (n == 0) parts.0)) (zeros_are ns parts.1)
+zeros_are (n ∷ ns) h = search (arith, or_parts, eqb-true, not-false, (zeros_are ns))
 
 pub header_from : (form text : List ℕ) (h : Header) → SpellsHeader form text h →
     header_behind form (line_tokens text) ≡ Ok h
@@ -68,10 +65,7 @@ if_error false name r h same = cc
 
 small_are : (ns : List ℕ) → list_any (λ n. nat_lt max_count n) ns ≡ false → AllByRecursion IsSmallNumber ns
 small_are [] h = tt
-small_are (n ∷ ns) h =
-    let parts = or_parts (nat_lt max_count n) (list_any (λ k. nat_lt max_count k) ns) h in
-    let within = ltb-false max_count n parts.0 in
-    (omega arith, small_are ns parts.1)
+small_are (n ∷ ns) h = search (arith, or_parts, nat_lt, ltb-false, (small_are ns))
 
 counts_are : (form text : List ℕ) (tokens : List (List ℕ)) (ns : List ℕ) (h : Header) →
     line_tokens text ≡ form ∷ tokens → map number_of tokens ≡ naturals ns →
@@ -83,29 +77,19 @@ counts_are form text tokens (m ∷ i ∷ []) h word numbers enough few small cou
 counts_are form text tokens (m ∷ i ∷ l ∷ []) h word numbers enough few small counts = absurd (omega arith)
 counts_are form text tokens (m ∷ i ∷ l ∷ o ∷ []) h word numbers enough few small counts = absurd (omega arith)
 counts_are form text tokens (m ∷ i ∷ l ∷ o ∷ a ∷ zs) h word numbers enough few small counts =
-    let Large : ℕ → Bool = λ n. nat_lt max_count n in
-    let first = or_parts (Large m) (list_any Large (i ∷ l ∷ o ∷ a ∷ zs)) small in
-    let second = or_parts (Large i) (list_any Large (l ∷ o ∷ a ∷ zs)) first.1 in
-    let third = or_parts (Large l) (list_any Large (o ∷ a ∷ zs)) second.1 in
-    let fourth = or_parts (Large o) (list_any Large (a ∷ zs)) third.1 in
-    let made : Header = record { max_var = m; inputs = i; outputs = o; gates = a } in
-    let sections = unless_error (not (l == 0) || list_any (λ n. not (n == 0)) zs) NotCombinational
-    (cond (nat_lt m (i + a)) (Err BadHeader) (Ok made)) h counts in
-    let zero = or_parts (not (l == 0)) (list_any (λ n. not (n == 0)) zs) sections.0 in
-    let room = unless_error (nat_lt m (i + a)) BadHeader (Ok made) h sections.1 in
-    let same : made ≡ h = cc in
-    let none : l ≡ 0 = eqb-true l 0 (not-false (l == 0) zero.0) in
-    let few_left : length zs ≤ 4 = omega arith in
-    subst (SpellsHeader form text) same (record {
-      zeros = length zs;
-      tokens = tokens;
-      word = word;
-      numbers = numbers ∙ ap₂ (λ k ks. naturals (m ∷ i ∷ k ∷ o ∷ a ∷ ks)) none (zeros_are zs zero.1);
-      few_sections = few_left;
-      enough = ltb-false m (i + a) room.0;
-      few_variables = ltb-false max_count m first.0;
-      few_outputs = ltb-false max_count o fourth.0;
-    })
+    search (
+      arith,
+      or_parts,
+      unless_error,
+      (nat_lt m (i + a)),
+      (or_parts (not (l == 0))),
+      (unless_error (nat_lt m (i + a))),
+      (eqb-true l 0),
+      (not-false (l == 0)),
+      (zeros_are zs),
+      (ltb-false m (i + a)),
+      ltb-false,
+    )
 
 numbers_spell : (form text : List ℕ) (tokens : List (List ℕ)) (found : Option (List ℕ)) (h : Header) →
     line_tokens text ≡ form ∷ tokens → numbers_of tokens ≡ found →
@@ -122,9 +106,7 @@ tokens_spell : (form text : List ℕ) (tokens : List (List ℕ)) (h : Header) �
     header_behind form tokens ≡ Ok h → SpellsHeader form text h
 tokens_spell form text [] h are read = cc
 tokens_spell form text (word ∷ tokens) h are read =
-    let parts = if_error (bytes_eq word form) BadHeader (header_numbers (numbers_of tokens)) h read in
-    numbers_spell form text tokens (numbers_of tokens) h (are ∙ ap (λ w. w ∷ tokens)
-    ((bytes_eq-Decides word form).0 parts.0)) refl parts.1
+    search (arith, if_error, (numbers_spell form text tokens), (bytes_eq-Decides word form))
 
 pub header_is : (form text : List ℕ) (h : Header) → header_behind form (line_tokens text) ≡ Ok h →
     SpellsHeader form text h

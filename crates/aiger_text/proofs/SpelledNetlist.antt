@@ -1,5 +1,5 @@
 -- The lines of inputs, outputs and gates that the grammar spells are read.
-use Rattle.std.proofs.Common.{◌≡◌, ◌≢◌, ℕ, ◌+◌, ◌*◌, ◌/◌, ◌%◌, ◌^◌, ◌<◌, ◌≤◌, ◌==◌, nat_lt, nat_le, get_or, true, false, not, ◌&&◌, List, [], ◌∷◌, ◌++◌, length, map, Contains, Result, Ok, Err, refl, sym, ◌∙◌, ap, arith, append-nil, length-append}
+use Rattle.std.proofs.Common.{◌≡◌, ◌≢◌, ℕ, ◌+◌, ◌*◌, ◌/◌, ◌^◌, ◌<◌, ◌≤◌, ◌==◌, nat_lt, nat_le, get_or, true, false, ◌&&◌, List, [], ◌∷◌, ◌++◌, length, map, Contains, Result, Ok, refl, sym, ◌∙◌, ap, arith, append-nil, length-append}
 use Rattle.std.specs.List.{list_any, AllPairs}
 use Rattle.std.proofs.lemmas.Bool.{and_from, or_from, lt-ltb, le-ltb, le-leb, lt-leb, eq-eqb, ne_eqb, cond-true, cond-false}
 use Rattle.std.proofs.lemmas.List.{get_or_at, get_or_append_left}
@@ -15,7 +15,6 @@ use Rattle.aiger_text.specs.Symbol.{SymbolTable}
 use Rattle.aiger_text.specs.declared.headers.Header.{Header}
 use Rattle.aiger_text.specs.declared.numbers.GateNumbers.{GateNumbers}
 use Rattle.aiger_text.specs.declared.files.AagFile.{AagFile}
-use Rattle.aiger_text.specs.declared.faults.AagFault.TheVariants.{TooBig, Range}
 use Rattle.aiger_text.specs.declared.body.NextLine.{NextLine}
 use Rattle.aiger_text.specs.declared.body.NextLine.TheVariants.{InputLine, OutputLine, GateLine, SymbolLine}
 use Rattle.aiger_text.proofs.NaturalTokens.{numbers_from}
@@ -37,31 +36,22 @@ body_with line h table inputs outputs gates = record {
 pub at_input : (line : ℕ) (h : Header) (table : SymbolTable) (is : List ℕ) (os : List ℕ) (gs : List Gate) →
     length is < h.inputs →
     next_part (body_with line h table is os gs) ≡ InputLine
-at_input line h table is os gs below = cond-true (nat_lt (length is) h.inputs) InputLine _
-    (lt-ltb (length is) h.inputs below)
+at_input line h table is os gs below = search (arith, cond-true, nat_lt, lt-ltb)
 
 pub at_output : (line : ℕ) (h : Header) (table : SymbolTable) (is : List ℕ) (os : List ℕ) (gs : List Gate) →
     length is ≡ h.inputs → length os < h.outputs →
     next_part (body_with line h table is os gs) ≡ OutputLine
-at_output line h table is os gs full below =
-    cond-false (nat_lt (length is) h.inputs) InputLine _ (le-ltb (length is) h.inputs (omega arith))
-    ∙ cond-true (nat_lt (length os) h.outputs) OutputLine _ (lt-ltb (length os) h.outputs below)
+at_output line h table is os gs full below = search (arith, cond-false, nat_lt, le-ltb, cond-true, lt-ltb)
 
 pub at_gate : (line : ℕ) (h : Header) (table : SymbolTable) (is : List ℕ) (os : List ℕ) (gs : List Gate) →
     length is ≡ h.inputs → length os ≡ h.outputs → length gs < h.gates →
     next_part (body_with line h table is os gs) ≡ GateLine
-at_gate line h table is os gs full full_outputs below =
-    cond-false (nat_lt (length is) h.inputs) InputLine _ (le-ltb (length is) h.inputs (omega arith))
-    ∙ cond-false (nat_lt (length os) h.outputs) OutputLine _ (le-ltb (length os) h.outputs (omega arith))
-    ∙ cond-true (nat_lt (length gs) h.gates) GateLine SymbolLine (lt-ltb (length gs) h.gates below)
+at_gate line h table is os gs full full_outputs below = search (arith, cond-false, nat_lt, le-ltb, cond-true, lt-ltb)
 
 pub at_symbol : (line : ℕ) (h : Header) (table : SymbolTable) (is : List ℕ) (os : List ℕ) (gs : List Gate) →
     length is ≡ h.inputs → length os ≡ h.outputs → length gs ≡ h.gates →
     next_part (body_with line h table is os gs) ≡ SymbolLine
-at_symbol line h table is os gs full full_outputs full_gates =
-    cond-false (nat_lt (length is) h.inputs) InputLine _ (le-ltb (length is) h.inputs (omega arith))
-    ∙ cond-false (nat_lt (length os) h.outputs) OutputLine _ (le-ltb (length os) h.outputs (omega arith))
-    ∙ cond-false (nat_lt (length gs) h.gates) GateLine SymbolLine (le-ltb (length gs) h.gates (omega arith))
+at_symbol line h table is os gs full full_outputs full_gates = search (arith, cond-false, nat_lt, le-ltb)
 
 -- the line is of this part
 pub on_part : (part : NextLine) (b : Body) (line : TextLine) (lines : List TextLine) (number : ℕ) → next_part b ≡ part →
@@ -72,11 +62,7 @@ pub small_literal : (max_var l : ℕ) → max_var ≤ max_count → IsLiteral ma
 small_literal max_var l few range = lt-leb (10 ^ 18) l (omega arith)
 
 positive_variable : (max_var v : ℕ) → IsVariable max_var v → is_positive max_var (2 * v) ≡ true
-positive_variable max_var v range =
-    and_from ((2 * v) % 2 == 0) (nat_le 2 (2 * v) && nat_le (2 * v) (2 * max_var))
-    (eq-eqb ((2 * v) % 2) 0 (omega arith))
-    (and_from (nat_le 2 (2 * v)) (nat_le (2 * v) (2 * max_var)) (le-leb 2 (2 * v) (omega (arith, range.0)))
-    (le-leb (2 * v) (2 * max_var) (omega (arith, range.1))))
+positive_variable max_var v range = search (arith, and_from, nat_le, eq-eqb, le-leb)
 
 half : (v : ℕ) → (2 * v) / 2 ≡ v
 half v = omega arith
@@ -86,8 +72,7 @@ behind_done all done todo x whole = omega (arith, ap length whole, length-append
 
 pub stands_behind : {X : Type 0} (all done todo : List X) (x : X) → done ++ (x ∷ todo) ≡ all → (d : X) →
     get_or all (length done) d ≡ x
-stands_behind all done todo x whole d = ap (λ xs. get_or xs (length done) d) (sym whole) ∙ get_or_at done x todo d
-    (length done) refl
+stands_behind all done todo x whole d = search (arith, get_or_at)
 
 pub is_member : {X : Type 0} (all done todo : List X) (x : X) → done ++ (x ∷ todo) ≡ all → Contains all x
 is_member all done todo x whole = (
@@ -108,9 +93,7 @@ not_before key all done todo x whole once =
 
 pub output_passes : (net : Netlist) (l : ℕ) → is_too_big l ≡ false → is_literal net.max_var l ≡ true →
     output_of net l ≡ Ok (with_output net l)
-output_passes net l small range =
-    cond-false (is_too_big l) (Err TooBig) _ small
-    ∙ cond-false (not (is_literal net.max_var l)) (Err Range) _ (ap not range)
+output_passes net l small range = search (arith, cond-false)
 
 -- the numbers of a gate, as its line spells it
 abbrev spelled_gate : Gate → GateNumbers

@@ -14,10 +14,7 @@ digits_stop : (digits : List ℕ) (byte : ℕ) (rest : List ℕ) → list_all is
     is_ascii_digit byte ≡ false →
     (take (digits_end (digits ++ (byte ∷ rest))) (digits ++ (byte ∷ rest)) ≡ digits) ×
     (drop (digits_end (digits ++ (byte ∷ rest))) (digits ++ (byte ∷ rest)) ≡ byte ∷ rest)
-digits_stop [] byte rest are stops =
-    let none : digits_end (byte ∷ rest) ≡ 0 = cond-false (not (not (is_ascii_digit byte))) (1 + digits_end rest) 0
-    (ap (λ b. not (not b)) stops) in
-    (ap (λ n. take n (byte ∷ rest)) none, ap (λ n. drop n (byte ∷ rest)) none)
+digits_stop [] byte rest are stops = search (arith, cond-false)
 digits_stop (digit ∷ digits) byte rest are stops =
     let bytes = digits ++ (byte ∷ rest) in
     let parts = and_parts (is_ascii_digit digit) (list_all is_ascii_digit digits) are in
@@ -40,10 +37,7 @@ digits_are (byte ∷ bytes) =
           ap (λ n. list_all is_ascii_digit (take n (byte ∷ bytes))) more
           ∙ and_from (is_ascii_digit byte) (list_all is_ascii_digit (take (digits_end bytes) bytes)) digit
           (digits_are bytes)
-      | inr other ↦
-          let none : digits_end (byte ∷ bytes) ≡ 0 = cond-false (not (not (is_ascii_digit byte)))
-          (1 + digits_end bytes) 0 (ap (λ b. not (not b)) other) in
-          ap (λ n. list_all is_ascii_digit (take n (byte ∷ bytes))) none
+      | inr other ↦ search (arith, cond-false)
     ]
 
 separates : (byte : ℕ) → (byte ≡ 32) ⊎ (byte ≡ 9) → ((byte == 32 || byte == 9) ≡ true) × (is_ascii_digit byte ≡ false)
@@ -60,27 +54,14 @@ behind_kind_from : (b : Bool) (s : SymbolLine) (digits : List ℕ) (separator : 
     (separator ≡ 32) ⊎ (separator ≡ 9) → s.name ≡ without_end_crs rest → 1 ≤ length s.name →
     behind_kind b (digits ++ (separator ∷ rest)) ≡ Some (record { of_input = b; place = s.place; name = s.name })
 behind_kind_from b s digits separator rest are place separated name named =
-    let bytes = digits ++ (separator ∷ rest) in
-    let apart = separates separator separated in
-    let stop = digits_stop digits separator rest are apart.1 in
-    let behind : ℕ → Option SymbolLine = λ n. behind_place b n (drop (digits_end bytes) bytes) in
-    ap (λ xs. option_and_then behind (natural_of xs)) stop.0
-    ∙ ap (option_and_then behind) (natural_taken digits s.place place)
-    ∙ ap (behind_place b s.place) stop.1
-    ∙ cond-true (separator == 32 || separator == 9) (if_named b s.place (without_end_crs rest)) None apart.0
-    ∙ ap (if_named b s.place) (sym name)
-    ∙ if_named_some b s.place s.name named
+    search (arith, digits_stop, natural_taken, cond-true, if_named_some)
 
 by_letter : (b : Bool) (bytes : List ℕ) → symbol_of (letter_of b ∷ bytes) ≡ behind_kind b bytes
 by_letter true bytes = refl
 by_letter false bytes = refl
 
 pub symbol_from : (text : List ℕ) (s : SymbolLine) → SpellsSymbol text s → symbol_of text ≡ Some s
-symbol_from text s spells =
-    ap symbol_of spells.spelling
-    ∙ by_letter s.of_input (spells.digits ++ (spells.separator ∷ spells.rest))
-    ∙ behind_kind_from s.of_input s spells.digits spells.separator spells.rest spells.are_digits spells.place
-    spells.separated spells.name spells.named
+symbol_from text s spells = search (arith, by_letter, behind_kind_from)
 
 number_parts : (o : Option ℕ) (next : ℕ → Option SymbolLine) (s : SymbolLine) → option_and_then next o ≡ Some s →
     (n : ℕ) × (o ≡ Some n) × (next n ≡ Some s)
@@ -90,18 +71,10 @@ number_parts (Some n) next s h = (n, refl, h)
 named_is : (b : Bool) (place : ℕ) (name : List ℕ) (s : SymbolLine) → if_named b place name ≡ Some s →
     (b ≡ s.of_input) × (place ≡ s.place) × (s.name ≡ name) × (1 ≤ length s.name)
 named_is b place [] s h = cc
-named_is b place (byte ∷ bytes) s h =
-    let same : record { of_input = b; place = place; name = byte ∷ bytes } ≡ s = cc in
-    let name : byte ∷ bytes ≡ s.name = ap (λ (x : SymbolLine). x.name) same in (
-      ap (λ (x : SymbolLine). x.of_input) same,
-      ap (λ (x : SymbolLine). x.place) same,
-      sym name,
-      omega (arith, ap length name),
-    )
+named_is b place (byte ∷ bytes) s h = search arith
 
 separator_is : (byte : ℕ) → (byte == 32 || byte == 9) ≡ true → (byte ≡ 32) ⊎ (byte ≡ 9)
-separator_is byte h = elim (or_cases (byte == 32) (byte == 9) h)
-    [ inl space ↦ inl (eqb-true byte 32 space) | inr tab ↦ inr (eqb-true byte 9 tab) ]
+separator_is byte h = search (arith, or_cases, eqb-true)
 
 none_or : (b : Bool) (o : Option SymbolLine) (s : SymbolLine) → cond b o None ≡ Some s → (b ≡ true) × (o ≡ Some s)
 none_or true o s h = (refl, h)
@@ -111,9 +84,7 @@ place_parts : (b : Bool) (place : ℕ) (bytes : List ℕ) (s : SymbolLine) → b
     (separator : ℕ) × (rest : List ℕ) × (bytes ≡ separator ∷ rest) × ((separator ≡ 32) ⊎ (separator ≡ 9)) ×
     (if_named b place (without_end_crs rest) ≡ Some s)
 place_parts b place [] s h = cc
-place_parts b place (separator ∷ rest) s h =
-    let parts = none_or (separator == 32 || separator == 9) (if_named b place (without_end_crs rest)) s h in
-    (separator, rest, refl, separator_is separator parts.0, parts.1)
+place_parts b place (separator ∷ rest) s h = search (arith, separator_is)
 
 kind_is : (b : Bool) (bytes : List ℕ) (s : SymbolLine) → behind_kind b bytes ≡ Some s → s.place < 10 ^ 18 →
     SpellsSymbol (letter_of b ∷ bytes) s

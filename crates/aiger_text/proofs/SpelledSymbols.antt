@@ -1,22 +1,20 @@
 -- The lines behind the gates that the grammar spells are read.
-use Rattle.std.proofs.Common.{◌≡◌, ℕ, ◌+◌, ◌<◌, ◌==◌, nat_lt, nat_eq, Bool, true, false, not, cond, ◌&&◌, inl, inr, is_none, List, [], ◌∷◌, ◌++◌, length, filter, Option, Some, None, Result, Ok, Err, refl, sym, ◌∙◌, ap, subst, append_assoc, append-nil}
+use Rattle.std.proofs.Common.{◌≡◌, ℕ, ◌+◌, ◌<◌, ◌==◌, nat_lt, nat_eq, Bool, true, false, not, cond, ◌&&◌, inl, inr, is_none, List, [], ◌∷◌, ◌++◌, length, filter, Option, Some, None, Ok, refl, ◌∙◌, ap, subst, append_assoc, append-nil, arith}
 use Rattle.std.specs.List.{list_any, AllZip}
 use Rattle.std.specs.Map.{lookup}
-use Rattle.std.proofs.lemmas.Bool.{and_from, or_parts, lt-ltb, ne_eqb, eqb-false, cases_Bool, cond-true, cond-false}
+use Rattle.std.proofs.lemmas.Bool.{and_from, or_parts, lt-ltb, ne_eqb, cases_Bool, cond-true, cond-false}
 use Rattle.std.proofs.lemmas.List.Elements.{All-contains}
 use Rattle.circuit_plain.specs.declared.circuits.Gate.{Gate}
 use Rattle.dq_text.specs.Bytes.{kind_of}
-use Rattle.dq_text.specs.Line.{TextLine, line_tokens, extend_token}
+use Rattle.dq_text.specs.Line.{TextLine, extend_token}
 use Rattle.dq_text.specs.Token.{is_separator}
 use Rattle.aiger_text.specs.Grammar.{names, AreNames, letter_of, SpellsSymbol, SpellSymbols, EndsWith}
 use Rattle.dq_text.specs.BlankLine.{has_no_token, is_blank_line}
-use Rattle.aiger_text.specs.Lines.{SymbolLine, add_symbol, symbol_line, begins_comment}
-use Rattle.aiger_text.specs.Scan.{Body, LineFault, finish, at_end, with_symbol, behind_gates, read_body}
+use Rattle.aiger_text.specs.Lines.{SymbolLine, add_symbol, begins_comment}
+use Rattle.aiger_text.specs.Scan.{Body, finish, behind_gates, read_body}
 use Rattle.aiger_text.specs.Symbol.{SymbolTable, name_at}
 use Rattle.aiger_text.specs.declared.headers.Header.{Header}
 use Rattle.aiger_text.specs.declared.files.AagFile.{AagFile}
-use Rattle.aiger_text.specs.declared.faults.AagFault.TheVariants.{BadSymbol}
-use Rattle.aiger_text.specs.declared.body.NextLine.TheVariants.{SymbolLine as AtSymbol}
 use Rattle.aiger_text.proofs.SpelledNetlist.{body_with, at_symbol, on_part, is_member, not_before}
 use Rattle.aiger_text.proofs.SpelledSymbolLines.{symbol_from}
 
@@ -33,18 +31,13 @@ with_name t s = cond s.of_input (record t { inputs = t.inputs ++ (s.place, s.nam
     (record t { outputs = t.outputs ++ (s.place, s.name) ∷ [] })
 
 pub joined-nil : (t : SymbolTable) → joined t [] ≡ t
-joined-nil t = ap (λ xs. record { inputs = xs; outputs = t.outputs ++ [] }) (append-nil t.inputs) ∙ ap
-    (λ xs. record { inputs = t.inputs; outputs = xs }) (append-nil t.outputs)
+joined-nil t = search (arith, append-nil)
 
 joined_parts : (t : SymbolTable) (b : Bool) (place : ℕ) (name : List ℕ) (symbols : List SymbolLine) →
     let s : SymbolLine = record { of_input = b; place = place; name = name } in
     joined (with_name t s) symbols ≡ joined t (s ∷ symbols)
-joined_parts t true place name symbols =
-    ap (λ xs. record { inputs = xs; outputs = t.outputs ++ names (λ s. not s.of_input) symbols })
-    (append_assoc t.inputs ((place, name) ∷ []) (names (λ s. s.of_input) symbols))
-joined_parts t false place name symbols =
-    ap (λ xs. record { inputs = t.inputs ++ names (λ s. s.of_input) symbols; outputs = xs })
-    (append_assoc t.outputs ((place, name) ∷ []) (names (λ s. not s.of_input) symbols))
+joined_parts t true place name symbols = search (arith, append_assoc)
+joined_parts t false place name symbols = search (arith, append_assoc)
 
 pub joined-cons : (t : SymbolTable) (s : SymbolLine) (symbols : List SymbolLine) →
     joined (with_name t s) symbols ≡ joined t (s ∷ symbols)
@@ -53,11 +46,7 @@ joined-cons t s symbols = joined_parts t s.of_input s.place s.name symbols
 absent_from : (symbols : List (ℕ × List ℕ)) (place : ℕ) → list_any (λ s. s.0 == place) symbols ≡ false →
     lookup (nat_eq place) symbols ≡ None
 absent_from [] place h = refl
-absent_from (s ∷ symbols) place h =
-    let parts = or_parts (s.0 == place) (list_any (λ e. e.0 == place) symbols) h in
-    cond-false (nat_eq place s.0) (Some s.1) (lookup (nat_eq place) symbols)
-    (ne_eqb place s.0 (λ same. eqb-false s.0 place parts.0 (sym same)))
-    ∙ absent_from symbols place parts.1
+absent_from (s ∷ symbols) place h = search (arith, or_parts, cond-false, nat_eq, ne_eqb, (absent_from symbols place))
 
 -- a name of the whole table that has its place free
 name_passes : (count : ℕ) (all done todo : List (ℕ × List ℕ)) (place : ℕ) (name : List ℕ) → AreNames count all →
@@ -75,13 +64,9 @@ pub symbol_passes : (h : Header) (table t : SymbolTable) (b : Bool) (place : ℕ
     let s : SymbolLine = record { of_input = b; place = place; name = name } in joined t (s ∷ todo) ≡ table →
     add_symbol h t s ≡ Ok (with_name t s)
 symbol_passes h table t true place name todo inputs outputs whole =
-    cond-true (nat_lt place h.inputs && is_none (name_at t.inputs place)) _ (Err BadSymbol)
-    (name_passes h.inputs table.inputs t.inputs (names (λ s. s.of_input) todo) place name inputs
-    (ap (λ (x : SymbolTable). x.inputs) whole))
+    search (arith, cond-true, (nat_lt place h.inputs), (name_passes h.inputs table.inputs t.inputs))
 symbol_passes h table t false place name todo inputs outputs whole =
-    cond-true (nat_lt place h.outputs && is_none (name_at t.outputs place)) _ (Err BadSymbol)
-    (name_passes h.outputs table.outputs t.outputs (names (λ s. not s.of_input) todo) place name outputs
-    (ap (λ (x : SymbolTable). x.outputs) whole))
+    search (arith, cond-true, (nat_lt place h.outputs), (name_passes h.outputs table.outputs t.outputs))
 
 extended : (byte : ℕ) (tokens : List (List ℕ)) → has_no_token tokens ≡ false →
     has_no_token (extend_token byte tokens) ≡ false
@@ -91,23 +76,14 @@ extended byte (token ∷ tokens) h = refl
 -- a line with a byte of a token in front isn't blank
 pub not_blank : (byte : ℕ) (bytes : List ℕ) → is_separator (kind_of byte) ≡ false → is_blank_line (byte ∷ bytes) ≡ false
 not_blank byte [] h = ap has_no_token (cond-false (is_separator (kind_of byte)) [] ((byte ∷ []) ∷ []) h)
-not_blank byte (next ∷ bytes) h =
-    ap has_no_token (cond-false (is_separator (kind_of byte)) (line_tokens (next ∷ bytes)) _ h)
-    ∙ elim (cases_Bool (is_separator (kind_of next))) [
-      | inl blank ↦ ap has_no_token (cond-false (not (is_separator (kind_of next)))
-          (extend_token byte (line_tokens (next ∷ bytes))) _ (ap not blank))
-      | inr more ↦ ap has_no_token (cond-true (not (is_separator (kind_of next))) _
-          ((byte ∷ []) ∷ line_tokens (next ∷ bytes)) (ap not more))
-          ∙ extended byte (line_tokens (next ∷ bytes)) (not_blank next bytes more)
-    ]
+not_blank byte (next ∷ bytes) h = search (arith, cond-false, cases_Bool, cond-true, (not_blank next bytes))
 
 no_mark_parts : (b : Bool) (bytes : List ℕ) → begins_comment (letter_of b ∷ bytes) ≡ false
 no_mark_parts true bytes = refl
 no_mark_parts false bytes = refl
 
 pub no_mark : (text : List ℕ) (s : SymbolLine) → SpellsSymbol text s → begins_comment text ≡ false
-no_mark text s spells = ap begins_comment spells.spelling ∙ no_mark_parts s.of_input
-    (spells.digits ++ (spells.separator ∷ spells.rest))
+no_mark text s spells = search (arith, no_mark_parts)
 
 module _ (header_line : ℕ) (h : Header) (is os : List ℕ) (gs : List Gate) (all_inputs : length is ≡ h.inputs)
     (all_outputs : length os ≡ h.outputs) (all_gates : length gs ≡ h.gates) (file : AagFile) where
@@ -117,30 +93,26 @@ module _ (header_line : ℕ) (h : Header) (is os : List ℕ) (gs : List Gate) (a
   on_symbol : (t : SymbolTable) (line : TextLine) (lines : List TextLine) (number : ℕ) →
       read_body (with_table t) (line ∷ lines) number ≡ behind_gates (with_table t) line
       (λ c. read_body c lines (line.number + 1))
-  on_symbol t line lines number = on_part AtSymbol (with_table t) line lines number
-      (at_symbol header_line h t is os gs all_inputs all_outputs all_gates)
+  on_symbol t line lines number = search (arith, on_part, at_symbol)
 
   blank_step : (t : SymbolTable) (line : TextLine) (lines : List TextLine) (number : ℕ) →
       is_blank_line line.text ≡ true →
       read_body (with_table t) lines (line.number + 1) ≡ Ok file →
       read_body (with_table t) (line ∷ lines) number ≡ Ok file
-  blank_step t line lines number blank goes =
-      on_symbol t line lines number ∙ cond-true (is_blank_line line.text)
-      (read_body (with_table t) lines (line.number + 1)) _ blank ∙ goes
+  blank_step t line lines number blank goes = search (arith, on_symbol, cond-true)
 
   symbol_step : (t : SymbolTable) (line : TextLine) (lines : List TextLine) (number : ℕ) (s : SymbolLine) →
       is_blank_line line.text ≡ false → SpellsSymbol line.text s →
       add_symbol h t s ≡ Ok (with_name t s) → read_body (with_table (with_name t s)) lines (line.number + 1) ≡ Ok file →
       read_body (with_table t) (line ∷ lines) number ≡ Ok file
   symbol_step t line lines number s other spells added goes =
-      let b = with_table t in
-      let next : Body → Result AagFile LineFault = λ c. read_body c lines (line.number + 1) in
-      on_symbol t line lines number
-      ∙ cond-false (is_blank_line line.text) (next b) _ other
-      ∙ cond-false (begins_comment line.text) (finish b (Some line.behind)) _ (no_mark line.text s spells)
-      ∙ ap (λ o. with_symbol line.number b (symbol_line h t o) next) (symbol_from line.text s spells)
-      ∙ ap (λ r. with_symbol line.number b r next) added
-      ∙ goes
+      search (
+        arith,
+        (on_symbol t line lines number),
+        cond-false,
+        (no_mark line.text s spells),
+        (symbol_from line.text s spells),
+      )
 
   pub symbols_read : (table : SymbolTable) (behind : List TextLine) → AreNames h.inputs table.inputs →
       AreNames h.outputs table.outputs →
@@ -148,18 +120,15 @@ module _ (header_line : ℕ) (h : Header) (is os : List ℕ) (gs : List Gate) (a
       (lines : List TextLine) (symbols : List SymbolLine) (t : SymbolTable) (number : ℕ) → joined t symbols ≡ table →
       SpellSymbols lines symbols →
       read_body (with_table t) (lines ++ behind) number ≡ Ok file
-  symbols_read table behind inputs outputs next [] [] t number whole spelled =
-      subst (λ x. read_body (with_table x) behind number ≡ Ok file) (sym whole ∙ joined-nil t) (next number)
+  symbols_read table behind inputs outputs next [] [] t number whole spelled = search (arith, joined-nil)
   symbols_read table behind inputs outputs next [] (s ∷ symbols) t number whole spelled = absurd spelled
   symbols_read table behind inputs outputs next (line ∷ lines) [] t number whole spelled =
-      let own = filter (λ (l : TextLine). not (is_blank_line l.text)) lines in
-      let Zip : Bool → Type 0 = λ b. AllZip (λ (l : TextLine) s. SpellsSymbol l.text s)
-      (cond (not b) (line ∷ own) own) [] in
-      elim (cases_Bool (is_blank_line line.text)) [
-        | inl blank ↦ blank_step t line (lines ++ behind) number blank
-            (symbols_read table behind inputs outputs next lines [] t (line.number + 1) whole (subst Zip blank spelled))
-        | inr other ↦ absurd (subst Zip other spelled)
-      ]
+      search (
+        arith,
+        cases_Bool,
+        blank_step,
+        (symbols_read table behind inputs outputs next lines [] t (line.number + 1) whole),
+      )
   symbols_read table behind inputs outputs next (line ∷ lines) (s ∷ symbols) t number whole spelled =
       let own = filter (λ (l : TextLine). not (is_blank_line l.text)) lines in
       let Zip : Bool → Type 0 = λ b. AllZip (λ (l : TextLine) e. SpellsSymbol l.text e) (cond (not b) (line ∷ own) own)
@@ -179,14 +148,8 @@ module _ (header_line : ℕ) (h : Header) (is os : List ℕ) (gs : List Gate) (a
   pub comment_read : (t : SymbolTable) (lines : List TextLine) (comment : Option (List ℕ)) (number : ℕ) →
       EndsWith lines comment →
       finish (with_table t) comment ≡ Ok file → read_body (with_table t) lines number ≡ Ok file
-  comment_read t [] None number ends done = ap (λ p. at_end p (with_table t) number)
-      (at_symbol header_line h t is os gs all_inputs all_outputs all_gates) ∙ done
+  comment_read t [] None number ends done = search (arith, at_symbol)
   comment_read t [] (Some comment) number ends done = absurd ends
   comment_read t (line ∷ lines) None number ends done = absurd ends
   comment_read t (line ∷ lines) (Some comment) number ends done =
-      on_symbol t line lines number
-      ∙ cond-false (is_blank_line line.text) _ _ (ap is_blank_line ends.mark ∙ not_blank 99 ends.blanks refl)
-      ∙ cond-true (begins_comment line.text) (finish (with_table t) (Some line.behind)) _
-      (ap begins_comment ends.mark ∙ ends.blank)
-      ∙ ap (λ x. finish (with_table t) (Some x)) (sym ends.behind)
-      ∙ done
+      search (arith, on_symbol, cond-false, not_blank, cond-true)

@@ -1,5 +1,5 @@
 -- Lines that each add one item to what was read.
-use Rattle.std.proofs.Common.{◌≡◌, ℕ, ◌+◌, ◌<◌, zero, suc, List, [], ◌∷◌, ◌++◌, map, length, Ok, refl, sym, ◌∙◌, ap, ap₂, arith, append_assoc, length-append, subst}
+use Rattle.std.proofs.Common.{◌≡◌, ℕ, ◌+◌, ◌<◌, zero, suc, List, [], ◌∷◌, ◌++◌, map, length, Ok, refl, sym, ◌∙◌, ap, ap₂, arith, append_assoc, length-append}
 use Rattle.std.proofs.lemmas.List.{append-nil}
 use Rattle.dq_text.specs.Line.{TextLine}
 use Rattle.dq_text.specs.declared.numbers.Number.{Number}
@@ -41,9 +41,7 @@ module _ (X : Type 0) (numbers : X → List Number) (body : List X → Body) (fi
       ((rest : List TextLine) (number : ℕ) → map line_numbers rest ≡ tail →
       read_body (body all) (rest ++ behind) number ≡ Ok file) →
       (number : ℕ) → read_body (body done) (lines ++ behind) number ≡ Ok file
-  stage_read all step [] done lines behind tail whole spelled next number =
-      subst (λ xs. read_body (body xs) (lines ++ behind) number ≡ Ok file) (sym whole ∙ append-nil done)
-      (next lines number spelled)
+  stage_read all step [] done lines behind tail whole spelled next number = search (arith, append-nil)
   stage_read all step (x ∷ todo) done [] behind tail whole spelled next number = cc
   stage_read all step (x ∷ todo) done (line ∷ lines) behind tail whole spelled next number =
       let here : line_numbers line ≡ numbers x = cc in
@@ -73,8 +71,7 @@ module _ (X : Type 0) (numbers : X → List Number) (body : List X → Body) (fi
     kept = kept;
     read = read;
   }
-  stage_spelled total Kept step ends (suc k) done [] number counted kept read =
-      absurd (ends done number (omega arith) read)
+  stage_spelled total Kept step ends (suc k) done [] number counted kept read = search arith
   stage_spelled total Kept step ends (suc k) done (line ∷ lines) number counted kept read =
       let s = step done line lines number (omega arith) kept read in
       let longer : length (done ++ s.item ∷ []) + k ≡ total = omega (arith, length-append done (s.item ∷ [])) in

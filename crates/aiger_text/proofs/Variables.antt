@@ -1,5 +1,5 @@
 -- Variables that a line may define.
-use Rattle.std.proofs.Common.{◌≡◌, ℕ, ◌+◌, ◌*◌, ◌/◌, ◌%◌, ◌<◌, ◌==◌, nat_le, Bool, true, false, not, cond, ◌&&◌, ◌||◌, inl, inr, length, get_or, Ok, Err, refl, sym, ◌∙◌, ap, arith}
+use Rattle.std.proofs.Common.{◌≡◌, ℕ, ◌+◌, ◌*◌, ◌/◌, ◌%◌, ◌<◌, ◌==◌, nat_le, Bool, true, false, cond, ◌&&◌, inl, inr, length, get_or, Ok, refl, sym, ◌∙◌, arith}
 use Rattle.std.specs.List.{list_any}
 use Rattle.std.proofs.lemmas.Bool.{and_parts, or_left, or_right, or_from, leb-true, eqb-true, eq-eqb, true≢false}
 use Rattle.std.proofs.lemmas.List.{get_or-map, length-map}
@@ -8,16 +8,13 @@ use Rattle.circuit_plain.specs.Netlist.{Netlist, IsVariable, IsDefined, variable
 use Rattle.circuit_plain.specs.declared.circuits.Gate.{Gate}
 use Rattle.aiger_text.specs.Lines.{is_too_big, is_positive, is_literal, is_defined, with_input, with_gate, input_of, gate_of}
 use Rattle.aiger_text.specs.ReaderState.{IsNewVariable, IsNewGate}
-use Rattle.aiger_text.specs.declared.faults.AagFault.TheVariants.{TooBig, Range, DefinedTwice}
 use Rattle.aiger_text.specs.declared.numbers.GateNumbers.{GateNumbers}
 
 no_gate : Gate
 no_gate = record { variable = 0; left = 0; right = 0 }
 
 pub defined_is : (net : Netlist) (v : ℕ) → IsDefined net v → is_defined net v ≡ true
-defined_is net v (inl (k, below, is)) =
-    or_left (list_any (λ x. x == v) net.inputs) (list_any (λ g. g.variable == v) net.gates)
-    (list_any_at (λ x. x == v) net.inputs k v below (eq-eqb (get_or net.inputs k v) v is))
+defined_is net v (inl (k, below, is)) = search (arith, or_left, list_any_at, eq-eqb)
 defined_is net v (inr (k, below, is)) =
     let inside : k < length net.gates = rw (length-map net.gates variable_of_gate) at below in
     let same : (get_or net.gates k no_gate).variable ≡ v = sym
@@ -27,13 +24,7 @@ defined_is net v (inr (k, below, is)) =
     (eq-eqb (get_or net.gates k no_gate).variable v same))
 
 positive_range : (max_var l : ℕ) → is_positive max_var l ≡ true → IsVariable max_var (l / 2)
-positive_range max_var l h =
-    let parts = and_parts (l % 2 == 0) (nat_le 2 l && nat_le l (2 * max_var)) h in
-    let range = and_parts (nat_le 2 l) (nat_le l (2 * max_var)) parts.1 in
-    let low = leb-true 2 l range.0 in
-    let high = leb-true l (2 * max_var) range.1 in
-    let even = eqb-true (l % 2) 0 parts.0 in
-    (omega arith, omega arith)
+positive_range max_var l h = search (arith, and_parts, nat_le, leb-true, eqb-true)
 
 pub is_new : (net : Netlist) (l : ℕ) → is_positive net.max_var l ≡ true → is_defined net (l / 2) ≡ false →
     IsNewVariable net (l / 2)
@@ -49,10 +40,7 @@ second false x y h = refl
 pub input_passes : (net : Netlist) (l : ℕ) → is_too_big l ≡ false → is_positive net.max_var l ≡ true →
     is_defined net (l / 2) ≡ false →
     input_of net l ≡ Ok (with_input net (l / 2))
-input_passes net l small positive undefined =
-    second (is_too_big l) (Err TooBig) _ small
-    ∙ second (not (is_positive net.max_var l)) (Err Range) _ (ap not positive)
-    ∙ second (is_defined net (l / 2)) (Err DefinedTwice) (Ok (with_input net (l / 2))) undefined
+input_passes net l small positive undefined = search arith
 
 -- the checks of a gate's range
 abbrev pub gate_in_range : ℕ → GateNumbers → Bool
@@ -63,12 +51,7 @@ pub gate_passes : (net : Netlist) (g : GateNumbers) → is_too_big g.lhs ≡ fal
     gate_in_range net.max_var g ≡ true → is_defined net (g.lhs / 2) ≡ false →
     gate_of net g.lhs g.left g.right ≡ Ok (with_gate net (record
     { variable = g.lhs / 2; left = g.left; right = g.right }))
-gate_passes net g lhs left right range undefined =
-    second (is_too_big g.lhs || (is_too_big g.left || is_too_big g.right)) (Err TooBig) _
-    (or_from (is_too_big g.lhs) (is_too_big g.left || is_too_big g.right) lhs
-    (or_from (is_too_big g.left) (is_too_big g.right) left right))
-    ∙ second (not (gate_in_range net.max_var g)) (Err Range) _ (ap not range)
-    ∙ second (is_defined net (g.lhs / 2)) (Err DefinedTwice) _ undefined
+gate_passes net g lhs left right range undefined = search (arith, or_from)
 
 pub is_new_gate : (net : Netlist) (g : GateNumbers) → gate_in_range net.max_var g ≡ true →
     is_defined net (g.lhs / 2) ≡ false → IsNewGate net g (g.lhs / 2)

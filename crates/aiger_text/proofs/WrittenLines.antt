@@ -1,5 +1,5 @@
 -- Lines that are put together, and lines of numbers.
-use Rattle.std.proofs.Common.{◌≡◌, ℕ, ◌+◌, ◌<◌, ◌^◌, cond, List, [], ◌∷◌, ◌++◌, map, refl, sym, ◌∙◌, ap, ap₂, subst, append_assoc}
+use Rattle.std.proofs.Common.{◌≡◌, ℕ, ◌+◌, ◌<◌, ◌^◌, cond, List, [], ◌∷◌, ◌++◌, map, refl, ◌∙◌, ap, ap₂, append_assoc, arith}
 use Rattle.std.specs.Fmt.{decimal}
 use Rattle.std.specs.List.{AllByRecursion, flat_map}
 use Rattle.std.proofs.lemmas.List.{map-append}
@@ -72,30 +72,18 @@ both_words (x ∷ xs) ns left right = (left.0, both_words xs ns left.1 right)
 numbers_spaced : (words : List (List ℕ)) (ns : List ℕ) (last : ℕ) →
     numbers_line words ns last ≡ spaced (words ++ map decimal ns) ++ decimal last
 numbers_spaced [] [] last = refl
-numbers_spaced [] (n ∷ ns) last =
-    append_assoc (number_text n) (flat_map number_text ns) (decimal last)
-    ∙ ap (λ bytes. number_text n ++ bytes) (numbers_spaced [] ns last)
-    ∙ sym (append_assoc (number_text n) (spaced (map decimal ns)) (decimal last))
-numbers_spaced (word ∷ words) ns last =
-    append_assoc (word ++ 32 ∷ []) (spaced words) (flat_map number_text ns ++ decimal last)
-    ∙ ap (λ bytes. (word ++ 32 ∷ []) ++ bytes) (numbers_spaced words ns last)
-    ∙ sym (append_assoc (word ++ 32 ∷ []) (spaced (words ++ map decimal ns)) (decimal last))
+numbers_spaced [] (n ∷ ns) last = search (arith, append_assoc, (numbers_spaced [] ns last))
+numbers_spaced (word ∷ words) ns last = search (arith, append_assoc, (numbers_spaced words ns last))
 
 pub numbers_tokens : (words : List (List ℕ)) (ns : List ℕ) (last : ℕ) → AreWords words → AreSmall ns → last < 10 ^ 18 →
     line_tokens (numbers_line words ns last) ≡ words ++ map decimal (ns ++ last ∷ [])
 numbers_tokens words ns last are small is =
-    ap line_tokens (numbers_spaced words ns last)
-    ∙ words_tokens (words ++ map decimal ns) (decimal last) (both_words words ns are small) (natural_is_word last is)
-    ∙ append_assoc words (map decimal ns) (decimal last ∷ [])
-    ∙ ap (λ tokens. words ++ tokens) (sym (map-append decimal ns (last ∷ [])))
+    search (arith, numbers_spaced, words_tokens, both_words, natural_is_word, append_assoc, map-append)
 
 pub numbers_no_feed : (words : List (List ℕ)) (ns : List ℕ) (last : ℕ) → AreWords words → AreSmall ns → last < 10 ^ 18 →
     AreNoFeed (numbers_line words ns last)
 numbers_no_feed words ns last are small is =
-    subst AreNoFeed (sym (numbers_spaced words ns last))
-    (both_no_feed (spaced (words ++ map decimal ns)) (decimal last)
-    (words_no_feed (words ++ map decimal ns) (both_words words ns are small))
-    (word_no_feed (decimal last) (natural_is_word last is)))
+    search (arith, numbers_spaced, both_no_feed, words_no_feed, both_words, word_no_feed, natural_is_word)
 
 pub numbers_are_read : (ns : List ℕ) → AreSmall ns → map number_of (map decimal ns) ≡ naturals ns
 numbers_are_read [] small = refl
@@ -107,5 +95,4 @@ both_small (n ∷ ns) last small is = (small.0, both_small ns last small.1 is)
 
 pub line_is_read : (ns : List ℕ) (last : ℕ) → AreSmall ns → last < 10 ^ 18 →
     line_numbers_of (numbers_line [] ns last) ≡ naturals (ns ++ last ∷ [])
-line_is_read ns last small is = ap (map number_of) (numbers_tokens [] ns last tt small is) ∙ numbers_are_read
-    (ns ++ last ∷ []) (both_small ns last small is)
+line_is_read ns last small is = search (arith, numbers_tokens, numbers_are_read, both_small)

@@ -53,13 +53,7 @@ pub header_is_line : (net : Netlist) → header_text net ≡ header_words net ++
 header_is_line net = ap (λ bytes. codes "aag " ++ bytes) (counts_are_words net)
 
 counts_small : (file : AagFile) → IsSpellable file → AreSmall (front_counts file.circuit)
-counts_small file is = (
-  omega (arith, is.few_variables),
-  (
-    omega (arith, is.enough, is.few_variables),
-    (omega arith, (omega (arith, is.few_outputs), tt)),
-  ),
-)
+counts_small file is = search arith
 
 gates_small : (file : AagFile) → IsSpellable file → length file.circuit.gates < 10 ^ 18
 gates_small file is = omega (arith, is.enough, is.few_variables)
@@ -69,10 +63,7 @@ aag_is_word = ((refl, (refl, (refl, tt))), tt)
 
 pub form_no_feed : (form : List ℕ) → AreWords (form ∷ []) → (file : AagFile) → IsSpellable file →
     AreNoFeed (header_of_form form file.circuit)
-form_no_feed form are file is =
-    let net = file.circuit in
-    numbers_no_feed (form ∷ []) (front_counts net) (length net.gates) are (counts_small file is)
-    (gates_small file is)
+form_no_feed form are file is = search (arith, numbers_no_feed, counts_small, gates_small)
 
 pub header_no_feed : (file : AagFile) → IsSpellable file → AreNoFeed (header_words file.circuit)
 header_no_feed file is = form_no_feed (codes "aag") aag_is_word file is
@@ -110,13 +101,7 @@ abbrev pub netlist_texts : Netlist → List (List ℕ)
 netlist_texts net = map input_line net.inputs ++ (map decimal net.outputs ++ map gate_line net.gates)
 
 gate_is_line : (g : Gate) → gate_text g ≡ gate_line g ++ 10 ∷ []
-gate_is_line g =
-    let v = number_text (2 * g.variable) in
-    let l = number_text g.left in
-    let r = decimal g.right in
-    ap (λ bytes. v ++ bytes) (sym (append_assoc l r (10 ∷ [])))
-    ∙ sym (append_assoc v (l ++ r) (10 ∷ []))
-    ∙ ap (λ bytes. bytes ++ 10 ∷ []) (sym (append_assoc v (l ++ []) r ∙ ap (λ bytes. v ++ bytes) (append_assoc l [] r)))
+gate_is_line g = search (arith, append_assoc)
 
 inputs_joined : (vs : List ℕ) → flat_map input_text vs ≡ joined_lines (map input_line vs)
 inputs_joined [] = refl
@@ -131,14 +116,7 @@ gates_joined [] = refl
 gates_joined (g ∷ gs) = ap₂ (λ xs ys. xs ++ ys) (gate_is_line g) (gates_joined gs)
 
 pub netlist_joined : (net : Netlist) → netlist_text net ≡ joined_lines (netlist_texts net)
-netlist_joined net =
-    let f : List ℕ → List ℕ = λ text. text ++ 10 ∷ [] in
-    let is = map input_line net.inputs in
-    let os = map decimal net.outputs in
-    let gs = map gate_line net.gates in
-    ap₂ (λ xs ys. xs ++ ys) (inputs_joined net.inputs)
-    (ap₂ (λ xs ys. xs ++ ys) (outputs_joined net.outputs) (gates_joined net.gates) ∙ sym (flat_map-append f os gs))
-    ∙ sym (flat_map-append f is (os ++ gs))
+netlist_joined net = search (arith, inputs_joined, outputs_joined, gates_joined, flat_map-append)
 
 -- numbers in range are small
 module _ (max_var : ℕ) (few : max_var ≤ max_count) where
@@ -151,14 +129,12 @@ module _ (max_var : ℕ) (few : max_var ≤ max_count) where
   inputs_read : (vs : List ℕ) → AllByRecursion (IsVariable max_var) vs →
       map line_numbers_of (map input_line vs) ≡ map input_numbers vs
   inputs_read [] are = refl
-  inputs_read (v ∷ vs) are = ap₂ (λ n ns. n ∷ ns) (line_is_read [] (2 * v) tt (input_small v are.0))
-      (inputs_read vs are.1)
+  inputs_read (v ∷ vs) are = search (arith, (line_is_read [] (2 * v)), (input_small v are.0), (inputs_read vs are.1))
 
   outputs_read : (ls : List ℕ) → AllByRecursion (IsLiteral max_var) ls →
       map line_numbers_of (map decimal ls) ≡ map output_numbers ls
   outputs_read [] are = refl
-  outputs_read (l ∷ ls) are = ap₂ (λ n ns. n ∷ ns) (line_is_read [] l tt (literal_small l are.0))
-      (outputs_read ls are.1)
+  outputs_read (l ∷ ls) are = search (arith, (line_is_read [] l), (literal_small l are.0), (outputs_read ls are.1))
 
   gate_small : (g : Gate) → IsGate max_var g → AreSmall (2 * g.variable ∷ g.left ∷ [])
   gate_small g is = (input_small g.variable is.variable, (literal_small g.left is.left, tt))
@@ -166,9 +142,7 @@ module _ (max_var : ℕ) (few : max_var ≤ max_count) where
   gates_read : (gs : List Gate) → AllByRecursion (IsGate max_var) gs →
       map line_numbers_of (map gate_line gs) ≡ map gate_numbers gs
   gates_read [] are = refl
-  gates_read (g ∷ gs) are =
-      ap₂ (λ n ns. n ∷ ns) (line_is_read (2 * g.variable ∷ g.left ∷ []) g.right (gate_small g are.0)
-      (literal_small g.right are.0.right)) (gates_read gs are.1)
+  gates_read (g ∷ gs) are = search (arith, line_is_read, gate_small, literal_small, (gates_read gs are.1))
 
   inputs_no_feed : (vs : List ℕ) → AllByRecursion (IsVariable max_var) vs → AllByRecursion AreNoFeed (map input_line vs)
   inputs_no_feed [] are = tt
@@ -180,33 +154,13 @@ module _ (max_var : ℕ) (few : max_var ≤ max_count) where
 
   gates_no_feed : (gs : List Gate) → AllByRecursion (IsGate max_var) gs → AllByRecursion AreNoFeed (map gate_line gs)
   gates_no_feed [] are = tt
-  gates_no_feed (g ∷ gs) are = (
-    numbers_no_feed [] (2 * g.variable ∷ g.left ∷ []) g.right tt (gate_small g are.0)
-        (literal_small g.right are.0.right),
-    gates_no_feed gs are.1,
-  )
+  gates_no_feed (g ∷ gs) are = search (arith, numbers_no_feed, gate_small, literal_small, (gates_no_feed gs are.1))
 
 pub netlist_read : (net : Netlist) → IsNetlist net → net.max_var ≤ max_count →
     map line_numbers_of (netlist_texts net) ≡ netlist_numbers net
-netlist_read net is few =
-    let m = net.max_var in
-    let os = map decimal net.outputs in
-    let gs = map gate_line net.gates in
-    map-append line_numbers_of (map input_line net.inputs) (os ++ gs)
-    ∙ ap₂ (λ xs ys. xs ++ ys) (inputs_read m few net.inputs (recursion_from_All
-    (IsVariable m) net.inputs is.inputs_fit))
-    (map-append line_numbers_of os gs
-    ∙ ap₂ (λ xs ys. xs ++ ys) (outputs_read m few net.outputs
-    (recursion_from_All (IsLiteral m) net.outputs is.outputs_fit))
-    (gates_read m few net.gates (recursion_from_All (IsGate m) net.gates is.gates_fit)))
+netlist_read net is few = search (arith, map-append, inputs_read, recursion_from_All, outputs_read, gates_read)
 
 pub netlist_no_feed : (net : Netlist) → IsNetlist net → net.max_var ≤ max_count →
     AllByRecursion AreNoFeed (netlist_texts net)
 netlist_no_feed net is few =
-    let m = net.max_var in
-    let os = map decimal net.outputs in
-    let gs = map gate_line net.gates in
-    both_lines (map input_line net.inputs) (os ++ gs) (inputs_no_feed m few net.inputs
-    (recursion_from_All (IsVariable m) net.inputs is.inputs_fit))
-    (both_lines os gs (outputs_no_feed m few net.outputs (recursion_from_All (IsLiteral m) net.outputs is.outputs_fit))
-    (gates_no_feed m few net.gates (recursion_from_All (IsGate m) net.gates is.gates_fit)))
+    search (arith, both_lines, inputs_no_feed, recursion_from_All, outputs_no_feed, gates_no_feed)

@@ -1,10 +1,10 @@
 -- The lines of symbols and the comment, as the canonical text has them.
-use Rattle.std.proofs.Common.{◌≡◌, ◌≢◌, ℕ, ◌+◌, ◌<◌, ◌^◌, ◌==◌, Bool, true, false, not, cond, inl, List, [], ◌∷◌, ◌++◌, map, filter, length, Option, None, Some, refl, sym, ◌∙◌, ap, ap₂, subst, arith, append_assoc, append-nil}
+use Rattle.std.proofs.Common.{◌≡◌, ◌≢◌, ℕ, ◌+◌, ◌<◌, ◌^◌, ◌==◌, Bool, true, false, not, List, [], ◌∷◌, ◌++◌, map, length, Option, None, Some, refl, sym, ◌∙◌, ap, ap₂, subst, arith, append_assoc, append-nil}
 use Rattle.std.specs.Fmt.{decimal}
-use Rattle.std.specs.List.{AllByRecursion, AllZip, flat_map}
+use Rattle.std.specs.List.{AllByRecursion, flat_map}
 use Rattle.std.proofs.lemmas.Bool.{ne_eqb}
 use Rattle.std.proofs.lemmas.List.Elements.{recursion_from_All}
-use Rattle.dq_text.specs.Line.{TextLine, lines_from}
+use Rattle.dq_text.specs.Line.{lines_from}
 use Rattle.dq_text.proofs.LineWords.{AreNoFeed, both_no_feed, word_no_feed, natural_is_word}
 use Rattle.dq_text.proofs.Numerals.{decimal_digits, natural_is_read}
 use Rattle.aiger_text.specs.Canonical.{symbol_text, comment_text}
@@ -33,9 +33,7 @@ pub record IsWritable (s : SymbolLine) : Type 0 where
   pub name : IsName s.name
 
 text_is_line : (b : Bool) (x : ℕ × List ℕ) → symbol_text (letter_of b) x ≡ symbol_line_text (symbol_at b x) ++ 10 ∷ []
-text_is_line b x =
-    ap (λ bytes. letter_of b ∷ bytes)
-    (append_assoc (decimal x.0) (32 ∷ []) (x.1 ++ 10 ∷ []) ∙ sym (append_assoc (decimal x.0) (32 ∷ x.1) (10 ∷ [])))
+text_is_line b x = search (arith, append_assoc)
 
 kind_joined : (b : Bool) (xs : List (ℕ × List ℕ)) → flat_map (symbol_text (letter_of b)) xs ≡ joined_lines
     (map symbol_line_text (map (symbol_at b) xs))
@@ -45,10 +43,7 @@ kind_joined b (x ∷ xs) = ap₂ (λ ys zs. ys ++ zs) (text_is_line b x) (kind_j
 both_joined : (ss ts : List SymbolLine) → joined_lines (map symbol_line_text ss) ++ joined_lines
     (map symbol_line_text ts) ≡ joined_lines (map symbol_line_text (ss ++ ts))
 both_joined [] ts = refl
-both_joined (s ∷ ss) ts =
-    append_assoc (symbol_line_text s ++ 10 ∷ []) (joined_lines (map symbol_line_text ss))
-    (joined_lines (map symbol_line_text ts))
-    ∙ ap (λ bytes. (symbol_line_text s ++ 10 ∷ []) ++ bytes) (both_joined ss ts)
+both_joined (s ∷ ss) ts = search (arith, append_assoc, (both_joined ss ts))
 
 pub symbols_joined : (inputs outputs : List (ℕ × List ℕ)) (rest : List ℕ) →
     flat_map (symbol_text 105) inputs ++ (flat_map (symbol_text 111) outputs ++ rest) ≡ joined_lines
@@ -61,17 +56,7 @@ symbols_joined inputs outputs rest =
 
 -- each line spells its symbol
 spells_symbol : (s : SymbolLine) → IsWritable s → SpellsSymbol (symbol_line_text s) s
-spells_symbol s is = record {
-  digits = decimal s.place;
-  separator = 32;
-  rest = s.name;
-  spelling = refl;
-  are_digits = (decimal_digits s.place is.place).are;
-  place = natural_is_read s.place is.place;
-  separated = inl refl;
-  name = sym is.name.no_end_crs;
-  named = is.name.some;
-}
+spells_symbol s is = search (arith, (decimal_digits s.place is.place), (natural_is_read s.place is.place))
 
 letter_shows : (b : Bool) (bytes : List ℕ) → is_blank_line (letter_of b ∷ bytes) ≡ false
 letter_shows true bytes = not_blank 105 bytes refl
@@ -81,13 +66,7 @@ pub symbols_spell : (n : ℕ) (symbols : List SymbolLine) (rest : List ℕ) → 
     SpellSymbols (lines_before n (map symbol_line_text symbols) rest) symbols
 symbols_spell n [] rest are = tt
 symbols_spell n (s ∷ symbols) rest are =
-    let texts = map symbol_line_text symbols in
-    let line : TextLine = record { text = symbol_line_text s; number = n; behind = joined_lines texts ++ rest } in
-    let own = filter (λ (l : TextLine). not (is_blank_line l.text)) (lines_before (n + 1) texts rest) in
-    let Zip : Bool → Type 0 = λ b. AllZip (λ (l : TextLine) e. SpellsSymbol l.text e) (cond (not b) (line ∷ own) own)
-    (s ∷ symbols) in
-    subst Zip (sym (letter_shows s.of_input (decimal s.place ++ (32 ∷ s.name))))
-    (spells_symbol s are.0, symbols_spell (n + 1) symbols rest are.1)
+    search (arith, letter_shows, spells_symbol, (symbols_spell (n + 1) symbols rest are.1))
 
 -- and is one line
 name_no_feed : (name : List ℕ) → AllByRecursion (λ byte. byte ≢ 10) name → AreNoFeed name
@@ -102,13 +81,15 @@ pub symbols_no_feed : (symbols : List SymbolLine) → AllByRecursion IsWritable 
     AllByRecursion AreNoFeed (map symbol_line_text symbols)
 symbols_no_feed [] are = tt
 symbols_no_feed (s ∷ symbols) are =
-    let is = are.0 in (
-      (
-        letter_no_feed s.of_input,
-        both_no_feed (decimal s.place) (32 ∷ s.name) (word_no_feed (decimal s.place) (natural_is_word s.place is.place))
-            (refl, name_no_feed s.name (recursion_from_All (λ byte. byte ≢ 10) s.name is.name.one_line)),
-      ),
-      symbols_no_feed symbols are.1,
+    search (
+      arith,
+      letter_no_feed,
+      both_no_feed,
+      word_no_feed,
+      natural_is_word,
+      name_no_feed,
+      recursion_from_All,
+      (symbols_no_feed symbols are.1),
     )
 
 kind_writable : (b : Bool) (count : ℕ) (xs : List (ℕ × List ℕ)) (behind : List SymbolLine) → count < 10 ^ 18 →
@@ -116,10 +97,8 @@ kind_writable : (b : Bool) (count : ℕ) (xs : List (ℕ × List ℕ)) (behind :
     AllByRecursion (λ x. IsName x.1) xs → AllByRecursion IsWritable behind →
     AllByRecursion IsWritable (map (symbol_at b) xs ++ behind)
 kind_writable b count [] behind few placed named are = are
-kind_writable b count (x ∷ xs) behind few placed named are = (
-  record { place = omega (arith, placed.0, few); name = named.0 },
-  kind_writable b count xs behind few placed.1 named.1 are,
-)
+kind_writable b count (x ∷ xs) behind few placed named are =
+    search (arith, (kind_writable b count xs behind few placed.1 named.1 are))
 
 pub symbols_writable : (file : AagFile) → IsSpellable file →
     AllByRecursion IsWritable (symbols_at file.symbols.inputs file.symbols.outputs)
@@ -154,8 +133,7 @@ names_of_outputs [] outputs = all_outputs outputs
 names_of_outputs (x ∷ xs) outputs = names_of_outputs xs outputs
 
 pub table_is : (t : SymbolTable) → t ≡ table_of (symbols_at t.inputs t.outputs)
-table_is t = sym (ap₂ (λ xs ys. record { inputs = xs; outputs = ys }) (names_of_inputs t.inputs t.outputs)
-    (names_of_outputs t.inputs t.outputs))
+table_is t = search (arith, names_of_inputs, names_of_outputs)
 
 -- the comment
 pub comment_ends : (n : ℕ) (comment : Option (List ℕ)) → EndsWith (lines_from n (comment_text comment)) comment

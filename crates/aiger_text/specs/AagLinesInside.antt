@@ -1,5 +1,5 @@
 -- What a reader of a circuit file is, by its fields.
-use Rattle.std.specs.Prelude.{◌≡◌, ℕ, ◌+◌, ◌<◌, ◌^◌, Bool, true, false, List, ◌∷◌, Option, None, Some, Result, Ok, Err, IfSome, IfNone, []}
+use Rattle.std.specs.Prelude.{◌≡◌, ℕ, ◌+◌, ◌<◌, ◌^◌, Bool, true, false, List, ◌∷◌, None, Some, Result, Ok, Err, IfSome, IfNone}
 use Rattle.std.specs.Option.{option_map}
 use Rattle.dq_text.specs.Line.{TextLine}
 use Rattle.aiger_text.specs.ReaderState.{IsCircuitReader, body_of}

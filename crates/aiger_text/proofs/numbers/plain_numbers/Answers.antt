@@ -1,4 +1,4 @@
-use Rattle.std.proofs.Common.{◌≡◌, ◌∷◌, [], pos, map, sym, ◌∙◌, ap}
+use Rattle.std.proofs.Common.{◌≡◌, ◌∷◌, [], pos, map, sym, ◌∙◌, ap, arith}
 use Rattle.dq_text.specs.Line.{line_tokens}
 use Rattle.dq_text.specs.Number.{number_of}
 use Rattle.dq_text.specs.declared.numbers.Number.TheVariants.{Int}
@@ -14,7 +14,5 @@ returns-then-is_blank c =
     let end : map number_of (line_tokens c.in_ok-right.behind.now) ≡ [] =
     blank_behind c.in_ok-right.behind.now (sym c.is_blank.ensures ∙ c.if-is_blank.true) in
     let numbers : map number_of (line_tokens c.args.line.now) ≡ Int (pos a) ∷ Int (pos b) ∷ Int (pos d) ∷ [] =
-    c.in_ok-lhs.ensures
-    ∙ ap (λ ns. Int (pos a) ∷ ns) (c.in_ok-left.ensures ∙ ap (λ ns. Int (pos b) ∷ ns)
-    (c.in_ok-right.ensures ∙ ap (λ ns. Int (pos d) ∷ ns) end)) in
+    search (arith, pos) in
     ap three_of (numbers_from (line_tokens c.args.line.now) (a ∷ b ∷ d ∷ []) numbers)

@@ -1,4 +1,4 @@
-use Rattle.std.proofs.Common.{◌≡◌, ℕ, List, Result, Ok, Err, refl, sym, ap, ◌∙◌, subst}
+use Rattle.std.proofs.Common.{◌≡◌, ℕ, List, Result, Ok, Err, refl, arith}
 use Rattle.std.specs.Prelude.{IfOk, ◌↔◌}
 use Rattle.aiger_text.specs.CommentLine.{file_of}
 use Rattle.aiger_text.specs.Grammar.{SpellsCircuit}
@@ -11,8 +11,7 @@ use Rattle.aiger_text.proofs.reader.read.Goals as goal
 by_scan : (first : ℕ) (text : List ℕ) (file : AagFile) → ((f : AagFile) →
     SpellsCircuit text f ↔ ((scan text first ≡ Ok f) × AllGrounded f.circuit))
     → (r : Result AagFile LineFault) → scan text first ≡ r → IsAagReading first r (Ok file) → SpellsCircuit text file
-by_scan first text file exact (Ok made) is (same, grounded) =
-    (exact file).1 (is ∙ ap Ok (sym same), subst (λ (f : AagFile). AllGrounded f.circuit) (sym same) grounded)
+by_scan first text file exact (Ok made) is (same, grounded) = search arith
 by_scan first text file exact (Err fault) is impossible = absurd impossible
 
 is_spelled : (first : ℕ) (text : List ℕ) (r : Result AagFile AagStop) →

@@ -1,15 +1,10 @@
-use Rattle.std.proofs.Common.{◌<◌, length, not, sym, arith}
+use Rattle.std.proofs.Common.{not, sym, arith}
 use Rattle.aiger_text.specs.Scan.{reads_defined}
 use Rattle.aiger_text.proofs.Cuts.{position-Some, position-None}
 use Rattle.aiger_text.proofs.undefined.undefined_gate.Goals as goal
 
 pub returns-then-names_undefined : goal.returns-then-names_undefined
-returns-then-names_undefined c =
-    let net = c.args.reader.now.circuit in
-    let below : c.loop-i.i < length net.gates = omega arith in
-    sym (position-Some (λ g. not (reads_defined net g)) net.gates c.loop-i.i
-    (record { variable = 0; left = 0; right = 0 }) below c.loop-i.invariant
-    (sym c.if-names_undefined.ensures))
+returns-then-names_undefined c = search (arith, position-Some)
 
 pub returns : goal.returns
 returns c =

@@ -1,15 +1,10 @@
-use Rattle.std.proofs.Common.{ℕ, List, Some, sym, ◌∙◌, ap}
-use Rattle.std.specs.Option.{option_copied}
+use Rattle.std.proofs.Common.{ℕ, List, Some, sym, ◌∙◌, ap, arith}
 use Rattle.aiger_text.specs.Symbol.{name_at}
 use Rattle.aiger_text.proofs.NamedPlaces.{named_none, named_some, same_place}
 use Rattle.aiger_text.proofs.name_tables.NameTable.get.Goals as goal
 
 pub returns-in_err-index : goal.returns-in_err-index
-returns-in_err-index c =
-    ap option_copied c.from_residual.ensures
-    ∙ sym (named_none c.self.inside.places c.self.inside.names c.args.place c.self.invariant
-    (sym (same_place c.args.place c.self.inside.places) ∙ sym c.in_err-index.ensures.place))
-    ∙ ap (λ (es : List (ℕ × List ℕ)). name_at es c.args.place) c.self.view_is
+returns-in_err-index c = search (arith, named_none, same_place)
 
 pub returns : goal.returns
 returns c =

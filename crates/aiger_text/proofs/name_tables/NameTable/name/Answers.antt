@@ -1,11 +1,9 @@
-use Rattle.std.proofs.Common.{ℕ, List, [], length, get_or, sym, ◌∙◌, ap, arith}
+use Rattle.std.proofs.Common.{ℕ, List, [], get_or, sym, ◌∙◌, ap, arith}
 use Rattle.aiger_text.proofs.NamedPlaces.{zip_long, zip_at}
 use Rattle.aiger_text.proofs.name_tables.NameTable.name.Goals as goal
 
 pub get-requires : goal.get-requires
-get-requires c =
-    let long = zip_long c.self.inside.places c.self.inside.names c.self.invariant in
-    omega (arith, c.requires, long, ap length c.self.view_is)
+get-requires c = search (arith, zip_long)
 
 pub returns : goal.returns
 returns c =

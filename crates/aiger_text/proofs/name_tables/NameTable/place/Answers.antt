@@ -1,18 +1,9 @@
-use Rattle.std.proofs.Common.{ℕ, List, [], length, get_or, sym, ◌∙◌, ap, arith}
+use Rattle.std.proofs.Common.{ℕ, List, [], get_or, sym, ◌∙◌, ap, arith}
 use Rattle.aiger_text.proofs.NamedPlaces.{zip_long, zip_at}
 use Rattle.aiger_text.proofs.name_tables.NameTable.place.Goals as goal
 
 pub place_at-requires : goal.place_at-requires
-place_at-requires c =
-    let long = zip_long c.self.inside.places c.self.inside.names c.self.invariant in
-    omega (
-      arith,
-      c.requires,
-      long,
-      c.self.invariant,
-      ap length c.self.view_is,
-      ap (λ (places : List ℕ). length places) c.items.ensures,
-    )
+place_at-requires c = search (arith, zip_long)
 
 pub returns : goal.returns
 returns c =
