@@ -37,7 +37,11 @@ spelled_is_scanned text first read s =
     let net = read.file.circuit in
     let h = counts_in net in
     let bytes = s.header_line.behind in
-    let ending : Ending = search arith in
+    let ending : Ending = record {
+      symbols = read.file.symbols;
+      comment = read.file.comment;
+      comment_line = read.comment_line;
+    } in
     let bare : Netlist = record net { inputs = [] } in
     let behind = lines_from (binary_line first h + 1) s.behind in
     let symbols = symbols_from h ending read.file.symbols s.comment_lines s.input_names s.output_names
