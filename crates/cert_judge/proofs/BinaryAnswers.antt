@@ -1,5 +1,5 @@
 -- A binary circuit's lines, one by one, and what is said of one with another number of inputs than there are universals.
-use Rattle.std.proofs.Common.{◌≡◌, ◌⊎◌, ℕ, ◌+◌, ◌≤◌, ◌==◌, Bool, true, false, not, cond, inl, inr, length, List, [], ◌∷◌, ◌++◌, Option, None, Some, Result, Ok, Err, refl, sym, ap, ◌∙◌, subst, arith, append_assoc, append-nil}
+use Rattle.std.proofs.Common.{◌≡◌, ◌⊎◌, ℕ, ◌+◌, ◌≤◌, ◌==◌, Bool, true, false, not, inl, inr, length, List, [], ◌∷◌, ◌++◌, Option, None, Some, Result, Ok, Err, refl, sym, ap, ◌∙◌, subst, arith, append_assoc, append-nil}
 use Rattle.std.specs.Prelude.{IfOk}
 use Rattle.std.proofs.lemmas.Bool.{ne_eqb, cond-true, false≢true}
 use Rattle.std.proofs.lemmas.List.FromFn.{length-range_with_len}
@@ -16,14 +16,13 @@ use Rattle.aig_binary.specs.Scan.{scan_binary, scan_lines}
 use Rattle.aig_binary.specs.declared.bare.BareCircuit.{BareCircuit}
 use Rattle.aig_binary.specs.declared.files_by_line.AigLines.{AigLines}
 use Rattle.aig_binary.specs.declared.files_by_line.Place.TheVariants.{Symbols, Comment}
-use Rattle.cert_text.specs.CircuitProof.{circuit_proof_of}
 use Rattle.cert_text.specs.declared.circuit_proofs.Dqp.{Dqp}
 use Rattle.skolem_checker.specs.Checks.{candidate_of, with_mapping}
 use Rattle.skolem_checker.specs.declared.mapping.MapName.TheVariants.{InputCount}
 use Rattle.skolem_checker.specs.declared.mapping.MapPlace.TheVariants.{Whole}
 use Rattle.cert_judge.specs.BinaryPhases.{FollowsBinary, GivesBareText, GivesFreeBinary, StartsBinary, TakesBinaryLine}
 use Rattle.cert_judge.specs.CircuitPhases.{BeginsComment, IsStoppedPhase}
-use Rattle.cert_judge.specs.Judgement.{as_proof, begins_proof, binary_mapping_line, BehindMapping, BehindProof, IsBinaryJudgement}
+use Rattle.cert_judge.specs.Judgement.{begins_proof, binary_mapping_line, BehindMapping, IsBinaryJudgement}
 use Rattle.cert_judge.specs.Phases.{line_end, next_phase, AreBinaryLines, Gives, GivesBinary, HasNoEnd, IsJudged, IsLastUnless, IsLawful, Takes}
 use Rattle.cert_judge.specs.Places.{AnswersStop}
 use Rattle.cert_judge.specs.ProofStart.{IsProofStart}
@@ -101,9 +100,7 @@ module _ (f : Dqbf) (first : ℕ) (old new : AigLines) (text : List ℕ) (ended 
     header = header ∙ are.header;
     ready = ready;
     before = are.before ++ (text ++ goes.end);
-    read = λ bytes. ap (λ b. scan_binary b first) (append_assoc are.before (text ++ goes.end) bytes
-        ∙ ap (λ b. are.before ++ b) (append_assoc text goes.end bytes))
-        ∙ are.read (text ++ (goes.end ++ bytes)) ∙ goes.any bytes;
+    read = search (arith, append_assoc);
   }
 
   -- from the phase before a line to the one behind it
@@ -114,8 +111,7 @@ module _ (f : Dqbf) (first : ℕ) (old new : AigLines) (text : List ℕ) (ended 
 
   pub binary_takes : (next : Option Phase) (after : Phase) → TakesBinaryLine f first old text ended new next →
       after ≡ next_phase (Binary first new) next → Takes f (Binary first old) text ended after
-  binary_takes next after takes turned =
-      subst (Takes f (Binary first old) text ended) (sym turned) (binary_turn next takes)
+  binary_takes next after takes turned = search (arith, binary_turn)
 
   pub follows_takes : (phase : Phase) → IsLawful phase → FollowsBinary f first old text phase →
       TakesBinaryLine f first old text ended new (Some phase)
@@ -164,9 +160,7 @@ module _ (first : ℕ) (text : List ℕ) (free : HasNoEnd text) (early : first �
 pub comment_follows : (f : Dqbf) (first : ℕ) (l : AigLines) (text : List ℕ) (phase : Phase) → l.place ≡ Comment →
     BeginsComment f BinaryForm first l.number (listed (file_so_far l)).file text phase →
     FollowsBinary f first l text phase
-comment_follows f first l text phase is begins ended behind answer last says =
-    subst (λ p. IsBinaryJudgement f first (gives_at p l (text ++ (line_end ended ++ behind))) answer) (sym is)
-    (begins ended behind answer last says)
+comment_follows f first l text phase is begins ended behind answer last says = search arith
 
 pub ok_follows : (f : Dqbf) (first number : ℕ) (l : AigLines) (bare : BareCircuit) (text : List ℕ)
     (r : Result Phase Memory) → l.place ≡ Comment → bare ≡ file_so_far l → number ≡ l.number →
@@ -180,9 +174,7 @@ ok_follows f first number l bare text (Err _) is bare_is number_is begins = tt
 -- a comment that is no proof
 free_gives : (f : Dqbf) (first : ℕ) (l : AigLines) (phase : Phase) → l.place ≡ Comment →
     GivesBareText f first (listed (file_so_far l)).file phase → GivesFreeBinary f first l phase
-free_gives f first l phase is gives comment behind answer free says =
-    subst (λ p. IsBinaryJudgement f first (gives_at p l comment) answer) (sym is)
-    (gives comment behind l.number answer free says)
+free_gives f first l phase is gives comment behind answer free says = search arith
 
 pub ok_free : (f : Dqbf) (first : ℕ) (l : AigLines) (bare : BareCircuit) (r : Result Phase Memory) →
     l.place ≡ Comment → bare ≡ file_so_far l → IfOk r (GivesBareText f first (listed bare).file) →
@@ -195,23 +187,18 @@ ok_free f first l bare (Err _) is bare_is gives = tt
 pub file_ends : (f : Dqbf) (first : ℕ) (l : AigLines) (answer : Judgement) →
     (l.place ≡ Symbols) ⊎ (l.place ≡ Comment) → BehindMapping (binary_mapping_line first) None
     (candidate_of f (listed (file_so_far l)).file.circuit l.reader.symbols) answer → GivesBinary f first l [] answer
-file_ends f first l answer (inl is) says =
-    subst (λ p. IsBinaryJudgement f first (gives_at p l []) answer) (sym is) says
-file_ends f first l answer (inr is) says =
-    subst (λ p. IsBinaryJudgement f first (gives_at p l []) answer) (sym is) says
+file_ends f first l answer (inl is) says = search arith
+file_ends f first l answer (inr is) says = search arith
 
 pub ok_ends : (f : Dqbf) (first : ℕ) (l : AigLines) (bare : BareCircuit) (r : Result Judgement Memory) →
     EndsBinary l (Ok bare) → IfOk r (BehindMapping (binary_mapping_line first) None
     (candidate_of f (listed bare).file.circuit bare.file.symbols)) → IfOk r (GivesBinary f first l [])
-ok_ends f first l bare (Ok answer) ends says =
-    file_ends f first l answer ends.0 (subst (λ (b : BareCircuit). BehindMapping (binary_mapping_line first) None
-    (candidate_of f (listed b).file.circuit b.file.symbols) answer) ends.1 says)
+ok_ends f first l bare (Ok answer) ends says = search (arith, file_ends)
 ok_ends f first l bare (Err _) ends says = tt
 
 pub stop_ends : (f : Dqbf) (first : ℕ) (l : AigLines) (stop : AagStop) (r : Result Judgement Memory) →
     EndsBinary l (Err stop) → IfOk r (AnswersStop stop) → IfOk r (GivesBinary f first l [])
-stop_ends f first l (RefusedFile line name) (Ok answer) ends says =
-    subst (λ read. IsBinaryJudgement f first read answer) (sym ends) says
+stop_ends f first l (RefusedFile line name) (Ok answer) ends says = search arith
 stop_ends f first l NoFile (Ok answer) ends says = absurd ends
 stop_ends f first l stop (Err _) ends says = tt
 
@@ -242,15 +229,8 @@ module _ (f : Dqbf) (first : ℕ) (bare : BareCircuit) (differ : ¬ (bare.inputs
       is_proof ≡ begins_proof text → is_proof ≡ false → finding ≡ Refused first (Mapping InputCount) →
       BeginsComment f BinaryForm first number (listed bare).file text (Decided finding)
   no_proof_begins number text finding is_proof free is not_one found ended behind answer last says =
-      let bytes = text ++ (line_end ended ++ behind) in
-      let net = (listed bare).file.circuit in
-      let same : begins_proof bytes ≡ false = begins_same ended text behind free last ∙ sym is ∙ not_one in
-      subst (λ b. BehindProof (binary_mapping_line first) (cond b (as_proof (circuit_proof_of f net bytes number))
-      (Ok None)) (candidate_of f net bare.file.symbols) answer) (sym same) (wrong_count None answer (says ∙ found))
+      search (arith, begins_same, wrong_count)
 
   pub no_proof_gives : (finding : Judgement) → finding ≡ Refused first (Mapping InputCount) →
       GivesBareText f first (listed bare).file (Decided finding)
-  no_proof_gives finding found comment behind number answer free says =
-      let net = (listed bare).file.circuit in
-      subst (λ b. BehindProof (binary_mapping_line first) (cond b (as_proof (circuit_proof_of f net comment number))
-      (Ok None)) (candidate_of f net bare.file.symbols) answer) (sym free) (wrong_count None answer (says ∙ found))
+  no_proof_gives finding found comment behind number answer free says = search (arith, wrong_count)

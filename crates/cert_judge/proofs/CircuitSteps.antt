@@ -1,5 +1,5 @@
 -- A circuit's lines, one by one.
-use Rattle.std.proofs.Common.{◌≡◌, ℕ, ◌+◌, Bool, true, false, not, cond, ◌&&◌, List, [], ◌∷◌, ◌++◌, Option, None, Some, Result, Ok, Err, refl, sym, ◌∙◌, ap, subst, append_assoc}
+use Rattle.std.proofs.Common.{◌≡◌, ℕ, ◌+◌, Bool, true, false, not, ◌&&◌, List, [], ◌∷◌, ◌++◌, Option, None, Some, Result, Ok, Err, refl, sym, ◌∙◌, ap, subst, append_assoc, arith}
 use Rattle.std.specs.Prelude.{IfSome, IfNone}
 use Rattle.dq_lits.specs.Formula.{Dqbf}
 use Rattle.dq_text.specs.Line.{lines_from}
@@ -10,10 +10,9 @@ use Rattle.aiger_text.specs.declared.faults.AagStop.{AagStop}
 use Rattle.aiger_text.specs.declared.faults.AagStop.TheVariants.{Refused as RefusedFile, Memory as NoFile}
 use Rattle.aiger_text.specs.declared.files.AagFile.{AagFile}
 use Rattle.aiger_text.specs.CircuitLines.{CircuitLines, GoesOn, ReadsLine, commented, gives, header_line, lines_give}
-use Rattle.cert_text.specs.CircuitProof.{circuit_proof_of}
 use Rattle.skolem_checker.specs.Checks.{candidate_of}
 use Rattle.cert_judge.specs.CircuitPhases.{FollowsLine, IsStoppedPhase}
-use Rattle.cert_judge.specs.Judgement.{as_proof, begins_proof, comment_line, line_ends, mapping_line, proof_in, BehindProof}
+use Rattle.cert_judge.specs.Judgement.{line_ends, mapping_line, proof_in, BehindProof}
 use Rattle.cert_judge.specs.Phases.{line_end, AnswersFile, AreLinesFrom, CircuitGives, Gives, HasNoEnd, IsEndOf, IsLastUnless, IsLawful}
 use Rattle.cert_judge.specs.declared.answers.Judgement.{Judgement}
 use Rattle.cert_judge.specs.declared.answers.Judgement.TheVariants.{Refused}
@@ -26,9 +25,7 @@ longer_end : (ended : Bool) (text behind comment : List ℕ) → IsEndOf behind 
     IsEndOf (text ++ (line_end ended ++ behind)) comment
 longer_end ended text behind comment end = record {
   before = text ++ (line_end ended ++ end.before);
-  parts = ap (λ b. text ++ (line_end ended ++ b)) end.parts
-      ∙ ap (λ b. text ++ b) (sym (append_assoc (line_end ended) end.before comment))
-      ∙ sym (append_assoc text (line_end ended ++ end.before) comment);
+  parts = search (arith, append_assoc);
 }
 
 no_comment : (before comment : List ℕ) → [] ≡ before ++ comment → comment ≡ []
@@ -40,10 +37,7 @@ proof_same : (ended : Bool) (f : Dqbf) (number : ℕ) (text behind comment : Lis
     proof_in f (number + 1) (line_ends behind) net (Some comment)
     ≡ proof_in f number (line_ends (text ++ (line_end ended ++ behind))) net (Some comment)
 proof_same true f number text behind comment net free last end =
-    ap (λ n. cond (begins_proof comment) (as_proof (circuit_proof_of f net comment n)) (Ok None))
-    (subst (λ b. comment_line (number + 1) (line_ends b) comment
-    ≡ comment_line number (line_ends (text ++ (10 ∷ b))) comment) (sym end.parts)
-    (same_comment_line number text end.before comment free))
+    search (arith, (same_comment_line number text end.before comment free))
 proof_same false f number text behind comment net free last end =
     let none = no_comment end.before comment (sym last.1 ∙ end.parts) in
     subst (λ c. proof_in f (number + 1) (line_ends behind) net (Some c)
@@ -55,20 +49,9 @@ file_back : (ended : Bool) (f : Dqbf) (h number : ℕ) (text behind : List ℕ) 
     BehindProof (mapping_line h file.circuit) (proof_in f (number + 1) (line_ends behind) file.circuit comment)
     (candidate_of f file.circuit file.symbols) answer →
     AnswersFile f h number (text ++ (line_end ended ++ behind)) (Ok file) answer
-file_back ended f h number text behind file answer None is free last end says =
-    subst (λ c. IfSome c (IsEndOf (text ++ (line_end ended ++ behind)))
-    × BehindProof (mapping_line h file.circuit)
-    (proof_in f number (line_ends (text ++ (line_end ended ++ behind))) file.circuit c)
-    (candidate_of f file.circuit file.symbols) answer) (sym is) (tt, says)
+file_back ended f h number text behind file answer None is free last end says = search arith
 file_back ended f h number text behind file answer (Some comment) is free last end says =
-    subst (λ c. IfSome c (IsEndOf (text ++ (line_end ended ++ behind)))
-    × BehindProof (mapping_line h file.circuit)
-    (proof_in f number (line_ends (text ++ (line_end ended ++ behind))) file.circuit c)
-    (candidate_of f file.circuit file.symbols) answer) (sym is) (
-      longer_end ended text behind comment end,
-      subst (λ p. BehindProof (mapping_line h file.circuit) p (candidate_of f file.circuit file.symbols) answer)
-          (proof_same ended f number text behind comment file.circuit free last end) says,
-    )
+    search (arith, longer_end, proof_same)
 
 answers_back : (ended : Bool) (f : Dqbf) (h number : ℕ) (text behind : List ℕ) (reading : Result AagFile AagStop)
     (answer : Judgement) → HasNoEnd text → IsLastUnless ended text behind →
@@ -108,9 +91,7 @@ module _ (old new : CircuitLines) (text : List ℕ) (free : HasNoEnd text) (befo
         is_reading = subst (λ r. IsAagReading (header_line old) r c.reading) (sym (given ended behind last))
             (subst (λ h. IsAagReading h (commented new.in_comment behind
             (lines_give new (lines_from new.number behind))) c.reading) goes.header c.is_reading);
-        answers = answers_back ended f (header_line old) old.number text behind c.reading answer free last
-            (subst (λ n. AnswersFile f (header_line old) n behind c.reading answer) goes.number
-            (subst (λ h. AnswersFile f h new.number behind c.reading answer) goes.header c.answers));
+        answers = search (arith, answers_back);
       }
 
   pub still_lines : (first : ℕ) → AreLinesFrom first old → AreLinesFrom first new
@@ -134,11 +115,7 @@ refused_back f old text new line name free before_comment none reads ended behin
     let step = subst (λ o. IfNone o (ReadsLine old text (Err (RefusedFile line name)) new)) none reads in
     record {
       reading = Err (RefusedFile line name);
-      is_reading = subst (λ b. IsAagReading (header_line old) (commented b bytes (lines_give old (lines_from
-          old.number bytes))) (Err (RefusedFile line name))) (sym before_comment)
-          (subst (λ ls. IsAagReading (header_line old) (lines_give old ls) (Err (RefusedFile line name)))
-          (sym (first_is ended old.number text behind free last))
-          (step behind (lines_from (old.number + 1) behind)));
+      is_reading = search (arith, first_is);
       answers = is;
     }
 

@@ -1,5 +1,5 @@
 -- The first line of a circuit's comment.
-use Rattle.std.proofs.Common.{◌≡◌, ◌≢◌, ℕ, suc, ◌+◌, ◌<◌, ◌==◌, ◌||◌, ◌↔◌, Bool, true, false, not, cond, List, [], ◌∷◌, ◌++◌, length, Option, None, Some, Result, Ok, Err, refl, sym, ◌∙◌, ap, subst, arith, inl, inr, append-nil, length-append, nat_lt}
+use Rattle.std.proofs.Common.{◌≡◌, ◌≢◌, ℕ, suc, ◌+◌, ◌==◌, ◌↔◌, Bool, true, false, not, cond, List, [], ◌∷◌, ◌++◌, length, Option, None, Some, Result, Ok, Err, refl, sym, ◌∙◌, ap, subst, arith, inl, inr, append-nil, length-append, nat_lt}
 use Rattle.std.specs.Prelude.{IfOk, IfNone, IsSome}
 use Rattle.std.specs.List.{position, position_or_len}
 use Rattle.std.proofs.Math.Seq.{take-append_seam}
@@ -8,7 +8,7 @@ use Rattle.std.proofs.lemmas.List.Elements.{All-head, All-tail}
 use Rattle.dq_lits.specs.Derivation.{ProofFault, LiveClauses}
 use Rattle.dq_lits.specs.Formula.{Dqbf}
 use Rattle.dq_lits.specs.declared.memory.Memory.{Memory}
-use Rattle.dq_text.specs.Line.{TextLine, line_tokens, lines_from}
+use Rattle.dq_text.specs.Line.{TextLine, lines_from}
 use Rattle.circuit_plain.specs.Netlist.{Netlist}
 use Rattle.aiger_text.specs.Scan.{AllGrounded, IsAagReading, LineFault, scan}
 use Rattle.aiger_text.specs.Scan.{Body}
@@ -22,26 +22,24 @@ use Rattle.rup_core.specs.Items.{ProofItem, items_fault}
 use Rattle.rup_core.specs.Runs.{Run, run_fault, start, with_items}
 use Rattle.cert_text.specs.CircuitProof.{circuit_proof_of, first_proof_id, read_proof}
 use Rattle.cert_text.specs.Numbering.{numbered_from}
-use Rattle.cert_text.specs.Header.{proof_word}
-use Rattle.cert_text.specs.declared.versions.Version.TheVariants.{One, Two}
 use Rattle.cert_text.specs.Lines.{IsReading}
 use Rattle.cert_text.specs.declared.circuit_proofs.Dqp.{Dqp}
 use Rattle.cert_text.specs.declared.faults.CertRefusal.{CertRefusal}
 use Rattle.cert_text.specs.declared.faults.CertStop.{CertStop}
 use Rattle.cert_text.specs.declared.faults.CertStop.TheVariants.{Refused as RefusedText, Memory as NoText}
 use Rattle.cert_stream.specs.KeptLines.{proof_seen}
-use Rattle.cert_stream.specs.ProofState.{AnswersLines, MayAnswer, ProofState, answers_by, fault_behind, judged_whole, run_in}
+use Rattle.cert_stream.specs.ProofState.{AnswersLines, MayAnswer, ProofState, answers_by, judged_whole, run_in}
 use Rattle.proof_checker.specs.CircuitProof.{negated_candidate}
 use Rattle.proof_checker.specs.Judging.{run_of, IsJudging}
 use Rattle.proof_checker.specs.declared.judging.CircuitProving.{CircuitProving}
 use Rattle.skolem_checker.specs.Checks.{Candidate, candidate_of, with_mapping}
-use Rattle.skolem_checker.specs.Mapping.{Mapping, mapping_of}
+use Rattle.skolem_checker.specs.Mapping.{Mapping}
 use Rattle.skolem_checker.specs.SkolemCircuit.{IsComplete}
 use Rattle.skolem_checker.specs.declared.mapping.MapError.{MapError}
 use Rattle.skolem_checker.specs.declared.mapping.MapPlace.{MapPlace}
 use Rattle.skolem_checker.proofs.LiteralNumbers.{spelled_complete}
 use Rattle.cert_judge.specs.CircuitPhases.{BeginsComment, BeginsProof, FollowsLine, GivesFreeText, IsStoppedPhase, IsWholeCircuit}
-use Rattle.cert_judge.specs.Judgement.{as_proof, begins_proof, begins_with, comment_line, first_line, line_ends, mapping_line, proof_in, proof_on, BehindMapping, BehindProof, IsTested}
+use Rattle.cert_judge.specs.Judgement.{as_proof, begins_proof, comment_line, first_line, line_ends, mapping_line, proof_in, proof_on, BehindMapping, BehindProof, IsTested}
 use Rattle.cert_judge.specs.Phases.{found_or_derived, line_end, AnswersFile, AreLinesFrom, CircuitGives, Gives, HasNoEnd, IsJudged, IsLastUnless, ProofGives, SaysProof}
 use Rattle.cert_judge.specs.Places.{AnswersStop, HasFewLines, mapping_line_in}
 use Rattle.cert_judge.specs.declared.circuits.Form.{Form}
@@ -77,18 +75,10 @@ no_feed (byte ∷ text) free =
     ∙ one_more_is (no_feed text (All-tail NoFeed byte text free))
 
 feed_found : (text behind : List ℕ) → HasNoEnd text → position is_feed (text ++ (10 ∷ behind)) ≡ Some (length text)
-feed_found text behind free =
-    let bytes = text ++ (10 ∷ behind) in
-    let long = length-append text (10 ∷ behind) in
-    let inside : length text < length bytes = omega (arith, long) in
-    ap (λ n. cond (nat_lt n (length bytes)) (Some n) None) (place_of_feed text behind free)
-    ∙ ap (λ b. cond b (Some (length text)) None) (lt-ltb (length text) (length bytes) inside)
+feed_found text behind free = search (arith, length-append, nat_lt, place_of_feed, lt-ltb)
 
 feed_missed : (text : List ℕ) → HasNoEnd text → position is_feed text ≡ None
-feed_missed text free =
-    let none : nat_lt (length text) (length text) ≡ false = le-ltb (length text) (length text) (omega arith) in
-    ap (λ n. cond (nat_lt n (length text)) (Some n) None) (no_feed text free)
-    ∙ ap (λ b. cond b (Some (length text)) None) none
+feed_missed text free = search (arith, nat_lt, le-ltb, no_feed)
 
 pub one_line_first : (text : List ℕ) → HasNoEnd text → first_line text ≡ text
 one_line_first text free = rw (feed_missed text free) refl
@@ -99,14 +89,11 @@ fed_line_first text behind free = rw (feed_found text behind free) (take-append_
 first_is_line : (ended : Bool) (text behind : List ℕ) → HasNoEnd text → IsLastUnless ended text behind →
     first_line (text ++ (line_end ended ++ behind)) ≡ first_line text
 first_is_line true text behind free last = fed_line_first text behind free ∙ sym (one_line_first text free)
-first_is_line false text behind free last =
-    ap (λ b. first_line (text ++ b)) last.1 ∙ ap first_line (append-nil text)
+first_is_line false text behind free last = search (arith, append-nil)
 
 pub begins_same : (ended : Bool) (text behind : List ℕ) → HasNoEnd text → IsLastUnless ended text behind →
     begins_proof (text ++ (line_end ended ++ behind)) ≡ begins_proof text
-begins_same ended text behind free last =
-    ap (λ line. begins_with (proof_word One) (line_tokens line) || begins_with (proof_word Two) (line_tokens line))
-    (first_is_line ended text behind free last)
+begins_same ended text behind free last = search (arith, first_is_line)
 
 -- the lines' file behind the comment's mark, whatever lines come
 gives_whole : (body : Option Body) (b : Bool) (number other : ℕ) (lines : List TextLine) → b ≡ true → IsSome body →
@@ -117,8 +104,7 @@ gives_whole (Some body) false number other lines whole some = cc
 
 module _ (l : CircuitLines) (whole : IsWholeCircuit l) where
   same_file : (bytes : List ℕ) → lines_give l (lines_from l.number bytes) ≡ lines_give l []
-  same_file bytes =
-      gives_whole l.body l.in_comment l.number l.number (lines_from l.number bytes) whole.comment whole.header
+  same_file bytes = search (arith, gives_whole)
 
 commented_stop : (h : ℕ) (bytes : List ℕ) (b : Bool) (read : Result AagFile LineFault) (stop : AagStop) →
     IsAagReading h read (Err stop) → IsAagReading h (commented b bytes read) (Err stop)
@@ -191,10 +177,7 @@ module _ (law : ReadIsSpelled) (first : ℕ) (l : CircuitLines) (net : Netlist) 
       let given = begins ended behind answer last says in
       record {
         reading = Ok (record { circuit = net; symbols = symbols; comment = Some bytes });
-        is_reading = subst (λ r. IsAagReading (header_line l) r
-            (Ok (record { circuit = net; symbols = symbols; comment = Some bytes })))
-            (sym (ap (commented l.in_comment bytes) (same_file l whole bytes ∙ read.0)
-            ∙ ap (λ b. commented b bytes (Ok (bare_file net symbols))) whole.comment)) (refl, read.1);
+        is_reading = search (arith, same_file);
         answers = (
           record { before = []; parts = refl },
           subst (λ h. BehindProof (mapping_line h net)
@@ -213,19 +196,8 @@ module _ (law : ReadIsSpelled) (first : ℕ) (l : CircuitLines) (net : Netlist) 
   free_gives whole f bytes behind answer free given =
       record {
         reading = Ok (record { circuit = net; symbols = symbols; comment = Some bytes });
-        is_reading = subst (λ r. IsAagReading (header_line l) r
-            (Ok (record { circuit = net; symbols = symbols; comment = Some bytes })))
-            (sym (ap (commented l.in_comment bytes) (same_file l whole bytes ∙ read.0)
-            ∙ ap (λ b. commented b bytes (Ok (bare_file net symbols))) whole.comment)) (refl, read.1);
-        answers = (
-          record { before = []; parts = refl },
-          subst (λ h. BehindProof (mapping_line h net)
-              (proof_in f l.number (line_ends bytes) net (Some bytes)) (candidate_of f net symbols) answer)
-              (sym are.header)
-              (subst (λ b. BehindProof (mapping_line first net)
-              (cond b (as_proof (circuit_proof_of f net bytes (comment_line l.number (line_ends bytes) bytes)))
-              (Ok None)) (candidate_of f net symbols) answer) (sym free) given),
-        );
+        is_reading = search (arith, same_file);
+        answers = search arith;
       }
 
 -- the circuit's lines stopped there
@@ -236,9 +208,7 @@ refused_free l (RefusedFile line name) phase none whole reading is f bytes behin
     let stop = RefusedFile line name in
     record {
       reading = Err stop;
-      is_reading = commented_stop (header_line l) bytes l.in_comment (lines_give l (lines_from l.number bytes)) stop
-          (subst (λ r. IsAagReading (header_line l) r (Err stop)) (sym (same_file l whole bytes))
-          (subst (λ o. IfNone o (IsAagReading (header_line l) (lines_give l []) (Err stop))) none reading));
+      is_reading = search (arith, commented_stop, same_file);
       answers = subst (λ p. Gives f p behind answer) is says;
     }
 refused_free l NoFile phase none whole reading is f bytes behind answer free says = absurd is
@@ -254,11 +224,7 @@ pub free_text_begins : (f : Dqbf) (form : Form) (first number : ℕ) (file : Aag
     HasNoEnd text → is_proof ≡ begins_proof text → is_proof ≡ false →
     BeginsComment f form first number file text (FreeText form first file)
 free_text_begins f form first number file text is_proof free is not_one ended behind answer last says =
-    let bytes = text ++ (line_end ended ++ behind) in
-    let same : begins_proof bytes ≡ false = begins_same ended text behind free last ∙ sym is ∙ not_one in
-    subst (λ b. BehindProof (mapping_line_in form first file.circuit)
-    (cond b (as_proof (circuit_proof_of f file.circuit bytes number)) (Ok None))
-    (candidate_of f file.circuit file.symbols) answer) (sym same) says
+    search (arith, begins_same)
 
 -- the proof's text, line by line
 renumbered : (s : ProofState) (number : ℕ) (b : Bool) (o : Option CertStop) (bytes : List ℕ)
@@ -282,24 +248,16 @@ module _ (finding : Option Judgement) (old new : ProofState) (text : List ℕ) (
     MayAnswer new lines said → MayAnswer old (line_of text old.lines.number behind ∷ lines) said) where
   pub proof_takes : (ended : Bool) (behind : List ℕ) (answer : Judgement) → IsLastUnless ended text behind →
       ProofGives finding new behind answer → ProofGives finding old (text ++ (line_end ended ++ behind)) answer
-  proof_takes ended behind answer last p = record {
-    said = p.said;
-    may = subst (λ ls. MayAnswer old ls p.said) (sym (first_is ended old.lines.number text behind free last))
-        (line behind (lines_from (old.lines.number + 1) behind) p.said
-        (renumbered new (old.lines.number + 1) new.failed new.lines.stopped behind p.said refl refl counts p.may));
-    says = p.says;
-  }
+  proof_takes ended behind answer last p = search (arith, first_is)
 
 says_read : (finding : Option Judgement) (run : Option Run) (read : Result Dqp CertRefusal)
     (said : Result (Option (Option ProofFault)) CertStop) (answer : Judgement) →
     IsReading (judged_whole run read) said → SaysProof finding said answer → SaysRead finding run read answer
-says_read finding run (Ok d) (Ok fault) answer is says =
-    let same : fault_behind run d.items ≡ fault = cc in says ∙ ap (found_or_derived finding) (sym same)
+says_read finding run (Ok d) (Ok fault) answer is says = search arith
 says_read finding run (Ok d) (Err (RefusedText r)) answer is says = cc
 says_read finding run (Ok d) (Err NoText) answer is says = absurd says
 says_read finding run (Err r) (Ok fault) answer is says = cc
-says_read finding run (Err r) (Err (RefusedText s)) answer is says =
-    let same : r ≡ s = cc in subst (λ (x : CertRefusal). SaysRead finding run (Err x) answer) (sym same) says
+says_read finding run (Err r) (Err (RefusedText s)) answer is says = search arith
 says_read finding run (Err r) (Err NoText) answer is says = absurd says
 
 -- before the header line of a proof
@@ -309,10 +267,7 @@ pub proof_begins : (f : Dqbf) (net : Netlist) (number : ℕ) (finding : Option J
     IsReading (judged_whole run (read_proof f net lines number)) said) →
     (bytes : List ℕ) (answer : Judgement) → ProofGives finding fresh bytes answer →
     SaysRead finding run (circuit_proof_of f net bytes number) answer
-proof_begins f net number finding run fresh first begun bytes answer p =
-    says_read finding run (circuit_proof_of f net bytes number) p.said answer
-    (begun (lines_from number bytes) p.said
-    (subst (λ n. MayAnswer fresh (lines_from n bytes) p.said) first p.may)) p.says
+proof_begins f net number finding run fresh first begun bytes answer p = search (arith, says_read)
 
 -- the proof is judged behind what was found
 found_says : (line_of : MapPlace → ℕ) (mapped : Result Candidate MapError) (d : Dqp) (found answer : Judgement) →
@@ -343,9 +298,7 @@ derived_says law f net symbols line_of (Ok c) d p answer parts is says =
 
 mapped_parts : (f : Dqbf) (net : Netlist) (r : Result Mapping MapError) (c : Candidate) →
     with_mapping f net r ≡ Ok c → (c.formula ≡ f) × (c.circuit.netlist ≡ net)
-mapped_parts f net (Ok mapping) c is =
-    let same : record { formula = f; circuit = record { netlist = net; mapping = mapping } } ≡ c = cc in
-    (ap (λ (x : Candidate). x.formula) (sym same), ap (λ (x : Candidate). x.circuit.netlist) (sym same))
+mapped_parts f net (Ok mapping) c is = search arith
 mapped_parts f net (Err fault) c is = cc
 
 -- a comment that is a proof
@@ -359,44 +312,31 @@ module _ (f : Dqbf) (form : Form) (first number : ℕ) (file : AagFile) (text : 
       (as_proof (circuit_proof_of f file.circuit (text ++ (line_end ended ++ behind)) number)) mapped answer →
       BehindProof (mapping_line_in form first file.circuit)
       (proof_on f file.circuit (Some (text ++ (line_end ended ++ behind))) (Some number)) mapped answer
-  behind_text ended behind answer last says =
-      let bytes = text ++ (line_end ended ++ behind) in
-      let same : begins_proof bytes ≡ true = begins_same ended text behind free last ∙ sym is ∙ one in
-      subst (λ b. BehindProof (mapping_line_in form first file.circuit)
-      (cond b (as_proof (circuit_proof_of f file.circuit bytes number)) (Ok None)) mapped answer) (sym same) says
+  behind_text ended behind answer last says = search (arith, begins_same)
 
   found_read : (found : Judgement) (run : Option Run) (read : Result Dqp CertRefusal) (answer : Judgement) →
       IsProofStart (mapping_line_in form first file.circuit) mapped (Found found) → SaysRead (Some found) run read answer →
       BehindProof (mapping_line_in form first file.circuit) (as_proof read) mapped answer
-  found_read found run (Ok d) answer stands says =
-      found_says (mapping_line_in form first file.circuit) mapped d found answer stands says
+  found_read found run (Ok d) answer stands says = search (arith, found_says)
   found_read found run (Err refusal) answer stands says = says
 
   pub found_begins : (found : Judgement) (run : Option Run) →
       IsProofStart (mapping_line_in form first file.circuit) mapped (Found found) →
       BeginsProof f file.circuit number (Some found) run text phase → BeginsComment f form first number file text phase
-  found_begins found run stands begins ended behind answer last says =
-      behind_text ended behind answer last
-      (found_read found run (circuit_proof_of f file.circuit (text ++ (line_end ended ++ behind)) number) answer stands
-      (begins ended behind answer last says))
+  found_begins found run stands begins ended behind answer last says = search (arith, behind_text, found_read)
 
   derived_read : RunIsFault → (p : CircuitProving) (read : Result Dqp CertRefusal) (answer : Judgement) →
       IsProofStart (mapping_line_in form first file.circuit) mapped (Proving p) →
       SaysRead None (Some (run_of f file.circuit p)) read answer →
       BehindProof (mapping_line_in form first file.circuit) (as_proof read) mapped answer
-  derived_read law p (Ok d) answer stands says =
-      derived_says law f file.circuit file.symbols (mapping_line_in form first file.circuit) mapped d p answer
-      (mapped_parts f file.circuit (mapping_of f file.circuit file.symbols)) stands says
+  derived_read law p (Ok d) answer stands says = search (arith, derived_says, mapped_parts)
   derived_read law p (Err refusal) answer stands says = says
 
   pub derived_begins : RunIsFault → (p : CircuitProving) →
       IsProofStart (mapping_line_in form first file.circuit) mapped (Proving p) →
       BeginsProof f file.circuit number None (Some (run_of f file.circuit p)) text phase →
       BeginsComment f form first number file text phase
-  derived_begins law p stands begins ended behind answer last says =
-      behind_text ended behind answer last
-      (derived_read law p (circuit_proof_of f file.circuit (text ++ (line_end ended ++ behind)) number) answer stands
-      (begins ended behind answer last says))
+  derived_begins law p stands begins ended behind answer last says = search (arith, behind_text, derived_read)
 
 -- a proof that is judged is one for the circuit
 pub judging_fresh : (f : Dqbf) (net : Netlist) (line_of : MapPlace → ℕ) (mapped : Result Candidate MapError)
@@ -411,9 +351,7 @@ judging_fresh f net line_of (Ok c) p parts is =
 pub standing_judges : (f : Dqbf) (form : Form) (first : ℕ) (file : AagFile) (p : CircuitProving) →
     IsProofStart (mapping_line_in form first file.circuit) (candidate_of f file.circuit file.symbols) (Proving p) →
     IsJudging f file.circuit p (numbered_from (first_proof_id f file.circuit))
-standing_judges f form first file p is =
-    judging_fresh f file.circuit (mapping_line_in form first file.circuit) (candidate_of f file.circuit file.symbols) p
-    (mapped_parts f file.circuit (mapping_of f file.circuit file.symbols)) is
+standing_judges f form first file p is = search (arith, judging_fresh, mapped_parts)
 
 pub ok_follows : (f : Dqbf) (l : CircuitLines) (first number : ℕ) (file : AagFile) (text : List ℕ)
     (r : Result Phase Memory) →
@@ -440,12 +378,8 @@ file_ends f first l net symbols (Ok answer) are reading says =
     (subst (λ o. IfNone o (IsAagReading h (lines_give l []) (Ok (bare_file net symbols)))) are.reads reading) in
     record {
       reading = Ok file;
-      is_reading = subst (λ r. IsAagReading h r (Ok file))
-          (sym (ap (commented l.in_comment []) parts.0 ∙ commented_file l.in_comment [] net symbols))
-          (refl, subst AllGrounded (sym (same_circuit l.in_comment [] net symbols)) parts.1);
-      answers = ended_answers l.in_comment f h l.number net symbols answer
-          (subst (λ n. BehindMapping (mapping_line n net) None (candidate_of f net symbols) answer) (sym are.header)
-          says);
+      is_reading = search (arith, commented_file, same_circuit);
+      answers = search (arith, ended_answers);
     }
 file_ends f first l net symbols (Err _) are reading says = tt
 

@@ -1,5 +1,5 @@
 -- Only one thing is said of definitions, and what is accepted is right.
-use Rattle.std.proofs.Common.{◌≡◌, ℕ, List, Option, None, Some, Result, Ok, Err, refl, sym, ap, ◌∙◌, subst}
+use Rattle.std.proofs.Common.{◌≡◌, ℕ, List, Option, None, Some, Result, Ok, Err, refl, sym, ap, ◌∙◌, subst, arith}
 use Rattle.std.specs.Prelude.{drop}
 use Rattle.dq_lits.specs.Formula.{Dqbf, IsWellFormed}
 use Rattle.cert_text.specs.DefinitionBlocks.{DefinitionBlock}
@@ -56,8 +56,7 @@ by_fault f text first answer blocks (Some fault) read judged says = record {
 by_reading : (f : Dqbf) (text : List ℕ) (first : ℕ) (answer : Judgement)
     (read : Result (List DefinitionBlock) CertRefusal) → definitions_of f text first ≡ read →
     IsDefinitionsAnswer f read answer → IsCheckOf f text first answer
-by_reading f text first answer (Ok blocks) read says =
-    by_fault f text first answer blocks says.0 read says.1.0 says.1.1
+by_reading f text first answer (Ok blocks) read says = search (arith, by_fault)
 by_reading f text first answer (Err refusal) read says = record {
   check = Err (RefusedText refusal);
   checked = read;
@@ -104,8 +103,7 @@ never_false f (Err refusal) says = cc
 by_counts : (f : Dqbf) (blocks : List DefinitionBlock) (fault : Option DefinitionFault) (counts : DefinedCounts) →
     AreJudged f blocks fault → ValidDefinitions counts ≡ answer_of_blocks blocks fault →
     (AreJudged f blocks None) × (counts ≡ counts_of no_counts blocks)
-by_counts f blocks None counts judged same =
-    let counted : counts ≡ counts_of no_counts blocks = cc in (judged, counted)
+by_counts f blocks None counts judged same = search arith
 by_counts f blocks (Some fault) counts judged same = cc
 
 -- what the grammar's law gives

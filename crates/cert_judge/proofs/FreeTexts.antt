@@ -1,5 +1,5 @@
 -- Comments that are no proof, by the first bytes of their first line.
-use Rattle.std.proofs.Common.{◌≡◌, ◌≢◌, ℕ, ◌<◌, ◌+◌, ◌||◌, ◌⊎◌, Bool, true, false, cond, List, [], ◌∷◌, ◌++◌, length, refl, sym, ◌∙◌, ap, subst, arith, inl, inr, append_assoc, append-nil, length-append}
+use Rattle.std.proofs.Common.{◌≡◌, ◌≢◌, ℕ, ◌<◌, ◌||◌, ◌⊎◌, Bool, true, false, cond, List, [], ◌∷◌, ◌++◌, length, refl, sym, ◌∙◌, ap, subst, arith, inl, inr, append_assoc, append-nil, length-append}
 use Rattle.std.specs.Str.{bytes_eq}
 use Rattle.std.proofs.lemmas.Bool.{cases_eq, false≢true, not-true}
 use Rattle.std.proofs.lemmas.List.Elements.{All-append, All-nil, All-push}
@@ -105,17 +105,7 @@ module _ (byte : ℕ) (more : List ℕ) (visible : is_separator (kind_of byte) �
   -- the word is all that there is, and goes on
   goes_behind : (token : List ℕ) (tokens : List (List ℕ)) → goes_on more ≡ true →
       line_tokens (byte ∷ []) ≡ token ∷ tokens → FirstWord (byte ∷ []) more token tokens
-  goes_behind token tokens goes is =
-      let first = some_word more goes in
-      let old : (byte ∷ []) ∷ [] ≡ token ∷ tokens = sym (alone [] refl) ∙ sym (put_is []) ∙ is in
-      let same : byte ∷ [] ≡ token = cc in
-      let none : [] ≡ tokens = cc in
-      subst (λ u. FirstWord (byte ∷ []) more u tokens) same (record {
-        added = first.0;
-        others = first.1;
-        is = put_is more ∙ in_front more goes ∙ ap (extend_token byte) first.2;
-        whole = λ some. absurd (some (sym none));
-      })
+  goes_behind token tokens goes is = search (arith, some_word, put_is)
 
   last_byte : (g : Bool) → goes_on more ≡ g → Grows (byte ∷ []) more
   last_byte true goes token tokens is = goes_behind token tokens goes is
@@ -135,8 +125,7 @@ any_byte byte bytes more true skipped grows token tokens is =
       is = ap (λ s. cond s (line_tokens (bytes ++ more)) (put byte (bytes ++ more))) skipped ∙ word.is;
       whole = word.whole;
     }
-any_byte byte bytes more false visible grows token tokens is =
-    visible_byte byte more visible bytes (goes_on bytes) refl grows token tokens is
+any_byte byte bytes more false visible grows token tokens is = search (arith, visible_byte)
 
 word_of : (bytes more : List ℕ) → Grows bytes more
 word_of [] more token tokens is = cc
@@ -194,11 +183,7 @@ no_proof bytes token tokens free is not_one more =
     (not_one.one word.added word.whole) (not_one.two word.added word.whole)
 
 not_longer : (token added word : List ℕ) → length word < length token → bytes_eq (token ++ added) word ≡ false
-not_longer token added word less =
-    false_unless (bytes_eq (token ++ added) word) (λ same.
-    let long : length token + length added ≡ length word =
-    sym (length-append token added) ∙ ap length ((bytes_eq-Decides (token ++ added) word).0 same) in
-    absurd (omega (arith, long, less)))
+not_longer token added word less = search (arith, false_unless, length-append, bytes_eq-Decides)
 
 -- it is longer than those words
 pub long_word : (token : List ℕ) (tokens : List (List ℕ)) → 4 < length token → IsNoProof token tokens
@@ -209,11 +194,7 @@ long_word token tokens long = record {
 
 other_word : (token added word : List ℕ) → added ≡ [] → bytes_eq token word ≡ false →
     bytes_eq (token ++ added) word ≡ false
-other_word token added word none is =
-    false_unless (bytes_eq (token ++ added) word) (λ same.
-    let equal : token ++ added ≡ word = (bytes_eq-Decides (token ++ added) word).0 same in
-    let whole : token ++ added ≡ token = ap (λ a. token ++ a) none ∙ append-nil token in
-    absurd (false≢true (sym is ∙ (bytes_eq-Decides token word).1 (sym whole ∙ equal))))
+other_word token added word none is = search (arith, false_unless, bytes_eq-Decides, append-nil, false≢true)
 
 -- it is another one, and others follow
 pub ended_word : (token next : List ℕ) (tokens : List (List ℕ)) → bytes_eq token (proof_word One) ≡ false →

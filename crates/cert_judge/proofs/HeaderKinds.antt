@@ -1,22 +1,19 @@
 -- The lines up to the header line tell the certificate's kind, whatever stands behind them.
-use Rattle.std.proofs.Common.{◌≡◌, ◌⊎◌, ℕ, ◌-◌, ◌<◌, Bool, true, false, cond, inl, inr, List, [], ◌∷◌, ◌++◌, length, Option, None, Some, Result, Ok, Err, refl, sym, ◌∙◌, ap, subst, arith, append_assoc, append-nil, length-append}
+use Rattle.std.proofs.Common.{◌≡◌, ℕ, ◌<◌, Bool, true, false, cond, inl, inr, List, [], ◌∷◌, ◌++◌, length, Option, None, Some, Result, Ok, Err, refl, sym, ◌∙◌, ap, subst, arith, append_assoc, append-nil, length-append}
 use Rattle.std.specs.Prelude.{codes, drop}
 use Rattle.std.specs.Str.{bytes_eq}
 use Rattle.std.proofs.Math.Seq.{drop-append_seam}
 use Rattle.dq_lits.specs.Formula.{Dqbf}
 use Rattle.dq_text.specs.Line.{line_tokens, lines_from}
-use Rattle.aig_binary.specs.Scan.{scan_binary}
 use Rattle.cert_text.specs.Beginning.{header_place}
-use Rattle.cert_text.specs.DefinitionText.{definitions_of}
-use Rattle.cert_text.specs.Kind.{agreeing, certificate_kind, header_kind, kind_at, kind_behind, kind_of_lines, kind_of_p, refusal, shows, stated_verdict}
-use Rattle.cert_text.specs.Scan.{refutation_of}
+use Rattle.cert_text.specs.Kind.{agreeing, certificate_kind, header_kind, kind_behind, kind_of_p, refusal, shows, stated_verdict}
 use Rattle.cert_text.specs.declared.faults.CertFault.TheVariants.{BadHeader, WrongVerdict}
 use Rattle.cert_text.specs.declared.faults.CertRefusal.{CertRefusal}
 use Rattle.cert_text.specs.declared.kinds.Kind.{Kind}
 use Rattle.cert_text.specs.declared.kinds.Kind.TheVariants.{Circuit as CircuitText, BinaryCircuit as BinaryText, Refutation as RefutationText, Definitions as DefinitionsText}
 use Rattle.cert_text.specs.declared.kinds.Verdict.{Verdict}
 use Rattle.cert_judge.specs.Beginnings.{BeginsAs, IsJudgementFrom, Starts}
-use Rattle.cert_judge.specs.Judgement.{answer_of_refutation, IsBinaryJudgement, IsCircuitAnswer, IsCircuitRefusal, IsDefinitionsAnswer, IsJudgement, IsJudgementOf}
+use Rattle.cert_judge.specs.Judgement.{IsJudgement, IsJudgementOf}
 use Rattle.cert_judge.specs.Phases.{line_end, HasNoEnd, IsBeginning, IsLastUnless, IsLawful, IsVerdictLine}
 use Rattle.cert_judge.specs.declared.answers.Judgement.{Judgement}
 use Rattle.cert_judge.specs.declared.answers.Judgement.TheVariants.{Refused}
@@ -32,8 +29,7 @@ whole before ended text behind = before ++ (text ++ (line_end ended ++ behind))
 -- the text so far, as it is put together
 pub put_together : (before text behind : List ℕ) (ended : Bool) →
     ((before ++ text) ++ line_end ended) ++ behind ≡ whole before ended text behind
-put_together before text behind ended =
-    append_assoc (before ++ text) (line_end ended) behind ∙ append_assoc before text (line_end ended ++ behind)
+put_together before text behind ended = search (arith, append_assoc)
 
 pub so_far : (before text : List ℕ) (ended : Bool) →
     (before ++ text) ++ line_end ended ≡ whole before ended text []
@@ -49,22 +45,17 @@ first_kind : (ended : Bool) (text behind : List ℕ) → HasNoEnd text → IsLas
     certificate_kind (whole [] ended text behind)
     ≡ kind_behind (length (whole [] ended text behind)) (line_of text 1 behind) (lines_from 2 behind)
     (stated_verdict (line_tokens text))
-first_kind ended text behind free last =
-    ap (kind_of_lines (length (whole [] ended text behind))) (first_is ended 1 text behind free last)
+first_kind ended text behind free last = search (arith, first_is)
 
 plain_kind : (ended : Bool) (text behind : List ℕ) → HasNoEnd text → IsLastUnless ended text behind →
     stated_verdict (line_tokens text) ≡ None →
     certificate_kind (whole [] ended text behind) ≡ header_kind 0 1 (line_tokens text)
-plain_kind ended text behind free last none =
-    first_kind ended text behind free last
-    ∙ ap (kind_behind (length (whole [] ended text behind)) (line_of text 1 behind) (lines_from 2 behind)) none
+plain_kind ended text behind free last none = search (arith, first_kind)
 
 missing_kind : (ended : Bool) (text : List ℕ) (verdict : Verdict) → HasNoEnd text → IsLastUnless ended text [] →
     stated_verdict (line_tokens text) ≡ Some verdict →
     certificate_kind (whole [] ended text []) ≡ Err (refusal 2 BadHeader)
-missing_kind ended text verdict free last states =
-    first_kind ended text [] free last
-    ∙ ap (kind_behind (length (whole [] ended text [])) (line_of text 1 []) (lines_from 2 [])) states
+missing_kind ended text verdict free last states = search (arith, first_kind)
 
 -- by the line behind the verdict's
 second_kind : (lines : List ℕ) (missing : CertRefusal) (is : IsVerdictLine lines missing) (ended : Bool)
@@ -72,17 +63,13 @@ second_kind : (lines : List ℕ) (missing : CertRefusal) (is : IsVerdictLine lin
     certificate_kind (whole lines ended text behind)
     ≡ agreeing is.verdict (header_kind (length lines) 2 (line_tokens text))
 second_kind lines missing is ended text behind free last =
-    let bytes = text ++ (line_end ended ++ behind) in
-    let all = is.text ++ (10 ∷ bytes) in
-    let joined : lines ++ bytes ≡ all =
-    ap (λ l. l ++ bytes) is.is ∙ append_assoc is.text (10 ∷ []) bytes in
-    let long = length-append lines bytes in
-    let place : length (lines ++ bytes) - length bytes ≡ length lines = omega (arith, long) in
-    ap (λ ls. kind_of_lines (length (lines ++ bytes)) ls)
-    (ap (lines_from 1) joined ∙ first_is true 1 is.text bytes is.one_line tt)
-    ∙ ap (kind_behind (length (lines ++ bytes)) (line_of is.text 1 bytes) (lines_from 2 bytes)) is.states
-    ∙ ap (λ n. agreeing is.verdict (kind_at n (lines_from 2 bytes))) place
-    ∙ ap (λ ls. agreeing is.verdict (kind_at (length lines) ls)) (first_is ended 2 text behind free last)
+    search (
+      arith,
+      (append_assoc is.text (10 ∷ [])),
+      (length-append lines),
+      (first_is true 1 is.text),
+      (first_is ended 2 text behind free last),
+    )
 
 -- a refusal that no later line changes
 abbrev pub IsFinal : CertRefusal → Bool → Result Kind CertRefusal → Type 0
@@ -109,8 +96,7 @@ by_end : (lines : List ℕ) (missing : CertRefusal) (ended : Bool) (text behind 
     IsBeginning lines missing → HasNoEnd text → IsLastUnless ended text behind →
     certificate_kind (whole lines ended text []) ≡ r → IsFinal missing ended r →
     certificate_kind (whole lines ended text behind) ≡ r
-by_end lines missing false text behind r is free last told final =
-    subst (λ b. certificate_kind (whole lines false text b) ≡ r) (sym last.1) told
+by_end lines missing false text behind r is free last told final = search arith
 by_end lines missing true text behind r (inl is) free last told final =
     subst (λ l. certificate_kind (whole l true text behind) ≡ r) (sym is.0)
     (first_same true text behind missing (stated_verdict (line_tokens text)) r is.1 free last refl refl
@@ -143,9 +129,7 @@ placed false false false at line tokens fault kind is = cc
 header_placed : (at line : ℕ) (tokens : List (List ℕ)) (kind : Kind) → header_kind at line tokens ≡ Ok kind →
     header_place kind ≡ at
 header_placed at line [] kind is = cc
-header_placed at line (word ∷ rest) kind is =
-    placed (bytes_eq word (codes "aag")) (bytes_eq word (codes "aig")) (bytes_eq word (codes "p")) at line
-    rest (refusal line BadHeader) kind is
+header_placed at line (word ∷ rest) kind is = search arith
 
 numbered : (a b c : Bool) (at line : ℕ) (tokens : List (List ℕ)) (fault : CertRefusal) →
     cond a (Ok (CircuitText at line)) (cond b (Ok (BinaryText at line)) (cond c (Ok (kind_of_p at line tokens))
@@ -158,11 +142,8 @@ numbered false false false at line tokens fault is =
 
 header_numbered : (at line : ℕ) (tokens : List (List ℕ)) (fault : CertRefusal) →
     header_kind at line tokens ≡ Err fault → fault.line ≡ line
-header_numbered at line [] fault is =
-    let same : refusal line BadHeader ≡ fault = cc in ap (λ (x : CertRefusal). x.line) (sym same)
-header_numbered at line (word ∷ rest) fault is =
-    numbered (bytes_eq word (codes "aag")) (bytes_eq word (codes "aig")) (bytes_eq word (codes "p")) at line rest
-    fault is
+header_numbered at line [] fault is = search arith
+header_numbered at line (word ∷ rest) fault is = search arith
 
 agreed_or_not : (b : Bool) (kind shown : Kind) →
     cond b (Ok kind) (Err (refusal 1 WrongVerdict)) ≡ (λ (r : Result Kind CertRefusal). r) (Ok shown) → kind ≡ shown
@@ -177,32 +158,22 @@ disagreed : (b : Bool) (kind : Kind) (fault : CertRefusal) →
     cond b (Ok kind) (Err (refusal 1 WrongVerdict)) ≡ (λ (r : Result Kind CertRefusal). r) (Err fault) →
     fault.line ≡ 1
 disagreed true kind fault is = cc
-disagreed false kind fault is =
-    let same : refusal 1 WrongVerdict ≡ fault = cc in ap (λ (x : CertRefusal). x.line) (sym same)
+disagreed false kind fault is = search arith
 
 agreeing_early : (verdict : Verdict) (at : ℕ) (tokens : List (List ℕ)) (r : Result Kind CertRefusal)
     (fault : CertRefusal) → header_kind at 2 tokens ≡ r → agreeing verdict r ≡ Err fault → fault.line < 3
-agreeing_early verdict at tokens (Ok kind) fault header is =
-    let one = disagreed (shows kind verdict) kind fault is in omega (arith, one)
-agreeing_early verdict at tokens (Err other) fault header is =
-    let same : other ≡ fault = cc in
-    let two = header_numbered at 2 tokens fault (header ∙ ap Err same) in omega (arith, two)
+agreeing_early verdict at tokens (Ok kind) fault header is = search (arith, disagreed)
+agreeing_early verdict at tokens (Err other) fault header is = search (arith, header_numbered)
 
 kind_place : (lines : List ℕ) (missing : CertRefusal) (ended : Bool) (text : List ℕ) (kind : Kind)
     (s : Option Verdict) → IsBeginning lines missing → HasNoEnd text → IsLastUnless ended text [] →
     stated_verdict (line_tokens text) ≡ s → certificate_kind (whole lines ended text []) ≡ Ok kind →
     header_place kind ≡ length lines
 kind_place lines missing ended text kind None (inl is) free last states told =
-    let first = subst (λ l. certificate_kind (whole l ended text []) ≡ Ok kind) is.0 told in
-    header_placed 0 1 (line_tokens text) kind (sym (plain_kind ended text [] free last states) ∙ first)
-    ∙ ap length (sym is.0)
-kind_place lines missing ended text kind (Some verdict) (inl is) free last states told =
-    let first = subst (λ l. certificate_kind (whole l ended text []) ≡ Ok kind) is.0 told in
-    let none = missing_kind ended text verdict free last states in cc
+    search (arith, header_placed, plain_kind)
+kind_place lines missing ended text kind (Some verdict) (inl is) free last states told = search (arith, missing_kind)
 kind_place lines missing ended text kind s (inr is) free last states told =
-    header_placed (length lines) 2 (line_tokens text) kind
-    (agreed is.verdict (header_kind (length lines) 2 (line_tokens text)) kind
-    (sym (second_kind lines missing is ended text [] free last) ∙ told))
+    search (arith, (header_placed (length lines) 2), (second_kind lines missing is ended text [] free last))
 
 -- a missing header line
 still_missing : (lines : List ℕ) (missing : CertRefusal) (text : List ℕ) (fault : CertRefusal) (s : Option Verdict) →
@@ -210,42 +181,21 @@ still_missing : (lines : List ℕ) (missing : CertRefusal) (text : List ℕ) (fa
     certificate_kind (whole lines true text []) ≡ Err fault → missing.line < fault.line →
     IsVerdictLine (whole lines true text []) fault
 still_missing lines missing text fault None (inl is) free states told later =
-    let first = subst (λ l. certificate_kind (whole l true text []) ≡ Err fault) is.0 told in
-    let one = header_numbered 0 1 (line_tokens text) fault (sym (plain_kind true text [] free tt states) ∙ first) in
-    let due : missing.line ≡ 1 = ap (λ (x : CertRefusal). x.line) is.1 in
-    absurd (omega (arith, one, due, later))
+    search (arith, (header_numbered 0 1), (plain_kind true text [] free))
 still_missing lines missing text fault (Some verdict) (inl is) free states told later =
-    let first = subst (λ l. certificate_kind (whole l true text []) ≡ Err fault) is.0 told in
-    let none = missing_kind true text verdict free tt states in
-    let same : refusal 2 BadHeader ≡ fault = cc in
-    record {
-      text = text;
-      verdict = verdict;
-      is = ap (λ l. whole l true text []) is.0;
-      one_line = free;
-      states = states;
-      missing_is = sym same;
-    }
+    search (arith, (missing_kind true text verdict free))
 still_missing lines missing text fault s (inr is) free states told later =
-    let early = agreeing_early is.verdict (length lines) (line_tokens text)
-    (header_kind (length lines) 2 (line_tokens text)) fault refl
-    (sym (second_kind lines missing is true text [] free tt) ∙ told) in
-    let due : missing.line ≡ 2 = ap (λ (x : CertRefusal). x.line) is.missing_is in
-    absurd (omega (arith, early, due, later))
+    search (arith, (agreeing_early is.verdict (length lines)), (second_kind lines missing is true text [] free))
 
 behind_lines : (lines bytes : List ℕ) (at : ℕ) → at ≡ length lines → drop at (lines ++ bytes) ≡ bytes
 behind_lines lines bytes at place = ap (λ n. drop n (lines ++ bytes)) place ∙ drop-append_seam lines bytes
 
 judged_from : (f : Dqbf) (lines bytes : List ℕ) (kind : Kind) (answer : Judgement) → header_place kind ≡ length lines →
     IsJudgementFrom f bytes kind answer → IsJudgementOf f (lines ++ bytes) (Ok kind) answer
-judged_from f lines bytes (CircuitText at h) answer place says =
-    subst (λ b. IsCircuitRefusal h b answer ⊎ IsCircuitAnswer f h b answer) (sym (behind_lines lines bytes at place)) says
-judged_from f lines bytes (BinaryText at h) answer place says =
-    subst (λ b. IsBinaryJudgement f h (scan_binary b h) answer) (sym (behind_lines lines bytes at place)) says
-judged_from f lines bytes (RefutationText at h) answer place says =
-    subst (λ b. answer ≡ answer_of_refutation f (refutation_of f b h)) (sym (behind_lines lines bytes at place)) says
-judged_from f lines bytes (DefinitionsText at h) answer place says =
-    subst (λ b. IsDefinitionsAnswer f (definitions_of f b h) answer) (sym (behind_lines lines bytes at place)) says
+judged_from f lines bytes (CircuitText at h) answer place says = search (arith, behind_lines)
+judged_from f lines bytes (BinaryText at h) answer place says = search (arith, behind_lines)
+judged_from f lines bytes (RefutationText at h) answer place says = search (arith, behind_lines)
+judged_from f lines bytes (DefinitionsText at h) answer place says = search (arith, behind_lines)
 
 module _ (f : Dqbf) (lines : List ℕ) (missing : CertRefusal) (ended : Bool) (text : List ℕ)
     (is : IsBeginning lines missing) (free : HasNoEnd text) where
@@ -299,12 +249,8 @@ module _ (f : Dqbf) (lines : List ℕ) (missing : CertRefusal) (ended : Bool) (t
 missing_told : (lines : List ℕ) (missing : CertRefusal) → IsBeginning lines missing →
     certificate_kind lines ≡ Err missing
 missing_told lines missing (inl is) = ap certificate_kind is.0 ∙ ap Err (sym is.1)
-missing_told lines missing (inr is) =
-    ap certificate_kind is.is ∙ missing_kind true is.text is.verdict is.one_line tt is.states
-    ∙ ap Err (sym is.missing_is)
+missing_told lines missing (inr is) = search (arith, (missing_kind true is.text is.verdict is.one_line))
 
 pub missing_says : (f : Dqbf) (lines : List ℕ) (missing : CertRefusal) (answer : Judgement) →
     IsBeginning lines missing → answer ≡ Refused missing.line (Text missing.name) → IsJudgement f (lines ++ []) answer
-missing_says f lines missing answer is says =
-    subst (λ t. IsJudgement f t answer) (sym (append-nil lines))
-    (subst (λ k. IsJudgementOf f lines k answer) (sym (missing_told lines missing is)) says)
+missing_says f lines missing answer is says = search (arith, (append-nil lines), (missing_told lines missing is))

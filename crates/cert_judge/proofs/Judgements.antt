@@ -1,7 +1,6 @@
 -- Only one thing is said of a certificate.
-use Rattle.std.proofs.Common.{◌≡◌, ◌⊎◌, ℕ, ◌<◌, ◌^◌, true, false, inl, inr, List, length, Option, None, Some, Result, Ok, Err, refl, sym, ap, ◌∙◌, subst, arith}
-use Rattle.std.specs.Prelude.{slice_index, drop}
-use Rattle.std.specs.List.{Contains}
+use Rattle.std.proofs.Common.{◌≡◌, ◌⊎◌, ℕ, ◌<◌, true, false, inl, inr, List, length, Option, None, Some, Result, Ok, Err, refl, sym, ◌∙◌, subst, arith}
+use Rattle.std.specs.Prelude.{drop}
 use Rattle.std.proofs.lemmas.Bool.{cases_order}
 use Rattle.std.proofs.lemmas.List.Sums.{list_all-from_AllPass}
 use Rattle.dq_lits.specs.Formula.{Existential, Dqbf}
@@ -10,8 +9,8 @@ use Rattle.aiger_text.specs.FirstFault.{IsFirstFault}
 use Rattle.aiger_text.specs.Grammar.{SpellsCircuit}
 use Rattle.aiger_text.specs.Scan.{LineFault}
 use Rattle.aiger_text.specs.declared.files.AagFile.{AagFile}
-use Rattle.skolem_checker.specs.Checks.{Candidate, candidate_of, existential_at, ReadsDeclaredBefore, IsFirstRead, IsFirstUndeclared, IsFirstBad, RowHolds, RowFails}
-use Rattle.skolem_checker.specs.SkolemCircuit.{MappedCircuit, ReadsUniversal}
+use Rattle.skolem_checker.specs.Checks.{Candidate, existential_at, ReadsDeclaredBefore, IsFirstRead, IsFirstUndeclared, IsFirstBad, RowHolds, RowFails}
+use Rattle.skolem_checker.specs.SkolemCircuit.{MappedCircuit}
 use Rattle.skolem_checker.specs.declared.mapping.MapError.{MapError}
 use Rattle.skolem_checker.specs.declared.mapping.MapPlace.{MapPlace}
 use Rattle.aiger_text.specs.declared.files.ReadCircuit.{ReadCircuit}
@@ -21,46 +20,28 @@ use Rattle.cert_text.specs.declared.circuit_proofs.Dqp.{Dqp}
 use Rattle.cert_text.specs.declared.faults.CertRefusal.{CertRefusal}
 use Rattle.cert_text.specs.declared.kinds.Kind.{Kind}
 use Rattle.cert_text.specs.declared.kinds.Kind.TheVariants.{Circuit as CircuitText, BinaryCircuit as BinaryText, Refutation, Definitions}
-use Rattle.cert_judge.specs.Judgement.{line_ends, proof_in, proof_on, mapping_line, binary_mapping_line, IsTestedByRows, IsTestedBy, HasUndeclaredRead, PassesReads, IsTested, BehindMapping, BehindProof, IsCircuitJudgement, IsBinaryJudgement, IsCircuitRefusal, IsCircuitAnswer, IsJudgementOf, IsJudgement}
+use Rattle.cert_judge.specs.Judgement.{IsTestedByRows, IsTestedBy, HasUndeclaredRead, PassesReads, IsTested, BehindMapping, BehindProof, IsCircuitJudgement, IsBinaryJudgement, IsCircuitRefusal, IsCircuitAnswer, IsJudgementOf, IsJudgement}
 use Rattle.defined_checker.specs.Forced.{TextsAreJudgedOnce}
 use Rattle.cert_judge.specs.declared.answers.Judgement.{Judgement}
 use Rattle.cert_judge.specs.declared.answers.Judgement.TheVariants.{Refused, UndeclaredRead, BadRow, Unproved, UnderivedStep, NoEmptyClause, ValidTrue, ValidFalse, BadBlock, ValidDefinitions}
-use Rattle.cert_judge.specs.declared.answers.CertificateFault.TheVariants.{Circuit}
 use Rattle.cert_judge.proofs.DefinitionAnswers.{one_definitions_answer}
 
 read_is_declared : (Reads : ℕ → ℕ → Type 0) (f : Dqbf) (y : Existential) (x end : ℕ) (r : IsFirstRead Reads f y x)
     → r.place < end → ReadsDeclaredBefore Reads f y end → ⊥
-read_is_declared Reads f y x end r below declared =
-    r.undeclared (subst (Contains y.sees) r.is (declared r.place below (subst (Reads y.variable) (sym r.is) r.reads)))
+read_is_declared Reads f y x end r below declared = search arith
 
 one_read : (Reads : ℕ → ℕ → Type 0) (f : Dqbf) (y : Existential) (x w : ℕ) → IsFirstRead Reads f y x →
     IsFirstRead Reads f y w → x ≡ w
-one_read Reads f y x w r s =
-    elim (cases_order r.place s.place) [
-      | inl same ↦ sym r.is ∙ ap (slice_index f.universals) same ∙ s.is
-      | inr (inl earlier) ↦ absurd (read_is_declared Reads f y x s.place r earlier s.first)
-      | inr (inr later) ↦ absurd (read_is_declared Reads f y w r.place s later r.first)
-    ]
+one_read Reads f y x w r s = search (arith, cases_order, read_is_declared)
 
 undeclared_is_declared : (Reads : ℕ → ℕ → Type 0) (f : Dqbf) (y x : ℕ) (r : IsFirstUndeclared Reads f y x) (end : ℕ) →
     r.place < end
     → ((p : ℕ) → p < end → ReadsDeclaredBefore Reads f (existential_at f p) (length f.universals)) → ⊥
-undeclared_is_declared Reads f y x r end below declared =
-    read_is_declared Reads f (existential_at f r.place) x (length f.universals) r.read r.read.in_range
-    (declared r.place below)
+undeclared_is_declared Reads f y x r end below declared = search (arith, read_is_declared)
 
 one_undeclared : (Reads : ℕ → ℕ → Type 0) (f : Dqbf) (y x z w : ℕ) → IsFirstUndeclared Reads f y x →
     IsFirstUndeclared Reads f z w → (y ≡ z) × (x ≡ w)
-one_undeclared Reads f y x z w r s =
-    elim (cases_order r.place s.place) [
-      | inl same ↦ (
-        sym r.is ∙ ap (λ p. (existential_at f p).variable) same ∙ s.is,
-        one_read Reads f (existential_at f s.place) x w (subst
-            (λ p. IsFirstRead Reads f (existential_at f p) x) same r.read) s.read,
-      )
-      | inr (inl earlier) ↦ absurd (undeclared_is_declared Reads f y x r s.place earlier s.first)
-      | inr (inr later) ↦ absurd (undeclared_is_declared Reads f z w s r.place later r.first)
-    ]
+one_undeclared Reads f y x z w r s = search (arith, cases_order, one_read, undeclared_is_declared)
 
 row_is_one : (f : Dqbf) (c : MappedCircuit) (k : ℕ) → RowHolds f c k → RowFails f c k → ⊥
 row_is_one f c k holds fails =
@@ -72,23 +53,14 @@ row_is_one f c k holds fails =
 one_bad : (Holds Fails : ℕ → Type 0) (end k j : ℕ) → ((i : ℕ) → Holds i → Fails i → ⊥)
     → IsFirstBad Holds Fails end (Err k) → IsFirstBad Holds Fails end (Err j) → k ≡ j
 one_bad Holds Fails end k j exclude (k_below, k_before, k_fails) (j_below, j_before, j_fails) =
-    elim (cases_order k j) [
-      | inl same ↦ same
-      | inr (inl earlier) ↦ absurd (exclude k (j_before k earlier) k_fails)
-      | inr (inr later) ↦ absurd (exclude j (k_before j later) j_fails)
-    ]
+    search (arith, cases_order)
 
 read_and_passes : (c : Candidate) (proof : Option Dqp) (a b : Judgement) → HasUndeclaredRead c a →
     PassesReads proof c b → ⊥
-read_and_passes c proof a b r s =
-    undeclared_is_declared (ReadsUniversal c.circuit) c.formula r.existential r.universal r.first
-    (length c.formula.existentials) r.first.in_range s.reads
+read_and_passes c proof a b r s = search (arith, undeclared_is_declared)
 
 one_undeclared_read : (c : Candidate) (a b : Judgement) → HasUndeclaredRead c a → HasUndeclaredRead c b → a ≡ b
-one_undeclared_read c a b r s =
-    let (same_y, same_x) = one_undeclared (ReadsUniversal c.circuit) c.formula r.existential r.universal s.existential
-    s.universal r.first s.first in
-    r.is ∙ ap (λ y. UndeclaredRead y r.universal) same_y ∙ ap (UndeclaredRead s.existential) same_x ∙ sym s.is
+one_undeclared_read c a b r s = search (arith, one_undeclared)
 
 one_by_rows : (f : Dqbf) (c : MappedCircuit) (a b : Judgement) → IsTestedByRows f c a → IsTestedByRows f c b → a ≡ b
 one_by_rows f c (Refused line name) b impossible _ = absurd impossible
@@ -108,23 +80,10 @@ one_by_rows f c (BadRow k) b r s = bad_row_is b s
     bad_row_is ValidFalse impossible = absurd impossible
     bad_row_is (BadBlock fault) impossible = absurd impossible
     bad_row_is (ValidDefinitions counts) impossible = absurd impossible
-    bad_row_is (BadRow j) (_, s) = ap BadRow (one_bad (RowHolds f c) (RowFails f c) (2 ^ length f.universals) k j
-        (row_is_one f c) r.1 s)
+    bad_row_is (BadRow j) (_, s) = search (arith, one_bad, row_is_one)
     bad_row_is (Unproved n) (many, same) = let few = r.0 in absurd (omega (arith, few, many, same))
     bad_row_is ValidTrue (_, s) = absurd (row_is_one f c k (s k r.1.0) r.1.2)
-one_by_rows f c (Unproved n) b r s = unproved_is b s
-  where
-    unproved_is : (b : Judgement) → IsTestedByRows f c b → Unproved n ≡ b
-    unproved_is (Refused line name) impossible = absurd impossible
-    unproved_is (UndeclaredRead y x) impossible = absurd impossible
-    unproved_is (UnderivedStep id) impossible = absurd impossible
-    unproved_is NoEmptyClause impossible = absurd impossible
-    unproved_is ValidFalse impossible = absurd impossible
-    unproved_is (BadBlock fault) impossible = absurd impossible
-    unproved_is (ValidDefinitions counts) impossible = absurd impossible
-    unproved_is (BadRow j) (few, _) = let many = r.0 in let same = r.1 in absurd (omega (arith, few, many, same))
-    unproved_is (Unproved m) (_, same) = ap Unproved (r.1 ∙ sym same)
-    unproved_is ValidTrue (few, _) = let many = r.0 in let same = r.1 in absurd (omega (arith, few, many, same))
+one_by_rows f c (Unproved n) b r s = search arith
 one_by_rows f c ValidTrue b r s = valid_is b s
   where
     valid_is : (b : Judgement) → IsTestedByRows f c b → ValidTrue ≡ b
@@ -163,16 +122,12 @@ one_behind_proof line_of (Ok proof) mapped a b r s = one_behind_mapping line_of 
 
 one_circuit_judgement : (f : Dqbf) (h : ℕ) (text : List ℕ) (file : AagFile) (a b : Judgement) →
     IsCircuitJudgement f h text file a → IsCircuitJudgement f h text file b → a ≡ b
-one_circuit_judgement f h text file a b =
-    one_behind_proof (mapping_line h file.circuit) (proof_in f h (line_ends text) file.circuit file.comment)
-    (candidate_of f file.circuit file.symbols) a b
+one_circuit_judgement f h text file a b = search (arith, one_behind_proof)
 
 one_binary_judgement : (f : Dqbf) (h : ℕ) (scanned : Result ReadCircuit LineFault) (a b : Judgement) →
     IsBinaryJudgement f h scanned a → IsBinaryJudgement f h scanned b → a ≡ b
 one_binary_judgement f h (Err fault) a b r s = r ∙ sym s
-one_binary_judgement f h (Ok read) a b r s =
-    one_behind_proof (binary_mapping_line h) (proof_on f read.file.circuit read.file.comment read.comment_line)
-    (candidate_of f read.file.circuit read.file.symbols) a b r s
+one_binary_judgement f h (Ok read) a b r s = search (arith, one_behind_proof)
 
 -- what the law of the circuits' grammar gives
 pub record CircuitLaw : Type 0 where
@@ -185,9 +140,7 @@ pub record CircuitLaw : Type 0 where
 by_file_or_fault : CircuitLaw → (f : Dqbf) (h : ℕ) (text : List ℕ) (a b : Judgement) →
     IsCircuitRefusal h text a ⊎ IsCircuitAnswer f h text a →
     IsCircuitRefusal h text b ⊎ IsCircuitAnswer f h text b → a ≡ b
-by_file_or_fault law f h text a b (inl r) (inl s) =
-    r.is ∙ ap (λ (fault : LineFault). Refused fault.line (Circuit fault.name))
-    (law.one_fault text h r.fault s.fault r.is_first s.is_first) ∙ sym s.is
+by_file_or_fault law f h text a b (inl r) (inl s) = search arith
 by_file_or_fault law f h text a b (inl r) (inr s) = absurd (law.never_both text h s.file r.fault s.spelled r.is_first)
 by_file_or_fault law f h text a b (inr r) (inl s) = absurd (law.never_both text h r.file s.fault r.spelled s.is_first)
 by_file_or_fault law f h text a b (inr r) (inr s) =

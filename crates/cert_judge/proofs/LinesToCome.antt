@@ -1,5 +1,5 @@
 -- The first line of the bytes to come, and the line ends in them.
-use Rattle.std.proofs.Common.{◌≡◌, ◌≢◌, ℕ, suc, ◌+◌, ◌==◌, Bool, true, false, cond, List, [], ◌∷◌, ◌++◌, length, refl, sym, ◌∙◌, ap, subst, arith, append_assoc, append-nil, length-append}
+use Rattle.std.proofs.Common.{◌≡◌, ◌≢◌, ℕ, ◌+◌, ◌==◌, Bool, true, false, cond, List, [], ◌∷◌, ◌++◌, length, refl, sym, ◌∙◌, ap, subst, arith, append_assoc, append-nil, length-append}
 use Rattle.std.specs.List.{filter}
 use Rattle.std.proofs.lemmas.Bool.{ne_eqb}
 use Rattle.std.proofs.lemmas.List.Elements.{All-head, All-tail, filter-append}
@@ -24,9 +24,7 @@ first_is false number text behind free last =
 
 -- line ends
 pub ends_both : (before behind : List ℕ) → line_ends (before ++ behind) ≡ line_ends before + line_ends behind
-ends_both before behind =
-    ap length (filter-append (λ byte. byte == 10) before behind)
-    ∙ length-append (filter (λ byte. byte == 10) before) (filter (λ byte. byte == 10) behind)
+ends_both before behind = search (arith, filter-append, length-append)
 
 pub no_ends : (text : List ℕ) → HasNoEnd text → line_ends text ≡ 0
 no_ends [] free = refl
@@ -37,20 +35,13 @@ no_ends (byte ∷ text) free =
 
 pub ends_with_line : (text behind : List ℕ) → HasNoEnd text →
     line_ends (text ++ (10 ∷ behind)) ≡ 1 + line_ends behind
-ends_with_line text behind free =
-    let both = ends_both text (10 ∷ behind) in
-    let none = no_ends text free in
-    let feed : line_ends (10 ∷ behind) ≡ suc (line_ends behind) = refl in
-    omega (arith, both, none, feed)
+ends_with_line text behind free = search (arith, ends_both, no_ends)
 
 -- a comment's line is counted from any line before it
 pub same_comment_line : (number : ℕ) (text before comment : List ℕ) → HasNoEnd text →
     comment_line (number + 1) (line_ends (before ++ comment)) comment
     ≡ comment_line number (line_ends (text ++ (10 ∷ (before ++ comment)))) comment
-same_comment_line number text before comment free =
-    let both = ends_both before comment in
-    let line = ends_with_line text (before ++ comment) free in
-    omega (arith, both, line)
+same_comment_line number text before comment free = search (arith, ends_both, ends_with_line)
 
 -- one more line behind what came
 pub one_more : (before text behind : List ℕ) → (before ++ (text ++ (10 ∷ []))) ++ behind

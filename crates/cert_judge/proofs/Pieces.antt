@@ -1,5 +1,5 @@
 -- A certificate that comes in pieces.
-use Rattle.std.proofs.Common.{◌≡◌, ℕ, List, [], ◌∷◌, ◌++◌, Result, Ok, Err, sym, ◌∙◌, ap, subst, append_assoc, append-nil}
+use Rattle.std.proofs.Common.{◌≡◌, ℕ, List, [], ◌++◌, Result, Ok, Err, sym, subst, append_assoc, append-nil, arith}
 use Rattle.std.specs.Prelude.{IfOk, OnOk}
 use Rattle.dq_lits.specs.Formula.{Dqbf}
 use Rattle.dq_lits.specs.declared.memory.Memory.{Memory}
@@ -13,17 +13,12 @@ use Rattle.cert_judge.specs.declared.phases.Phase.{Phase}
 pub line_back : (f : Dqbf) (old new : Phase) (before rest line behind bytes : List ℕ) (answer : Judgement) →
     IsCut rest line behind → IsTaken f old (before ++ line) new → Gives f new (behind ++ bytes) answer →
     Gives f old (before ++ (rest ++ bytes)) answer
-line_back f old new before rest line behind bytes answer cut taken says =
-    subst (λ t. Gives f old t answer)
-    (append_assoc before line (10 ∷ (behind ++ bytes))
-    ∙ ap (λ b. before ++ b) (sym (append_assoc line (10 ∷ behind) bytes) ∙ ap (λ r. r ++ bytes) (sym cut.parts)))
-    (taken (behind ++ bytes) answer says)
+line_back f old new before rest line behind bytes answer cut taken says = search (arith, append_assoc)
 
 -- what stands behind the last LF
 pub rest_back : (f : Dqbf) (phase : Phase) (before rest after bytes : List ℕ) (answer : Judgement) →
     after ≡ before ++ rest → Gives f phase (after ++ bytes) answer → Gives f phase (before ++ (rest ++ bytes)) answer
-rest_back f phase before rest after bytes answer is says =
-    subst (λ t. Gives f phase t answer) (ap (λ a. a ++ bytes) is ∙ append_assoc before rest bytes) says
+rest_back f phase before rest after bytes answer is says = search (arith, append_assoc)
 
 -- a piece more
 pub fed : (old new : StreamState) (text piece : List ℕ) → new.formula ≡ old.formula →

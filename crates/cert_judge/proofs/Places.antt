@@ -5,7 +5,4 @@ use Rattle.aiger_text.specs.declared.files.AagFile.{AagFile}
 use Rattle.cert_judge.specs.Places.{HasFewLines}
 
 pub spelled_few : (text : List ℕ) (file : AagFile) → SpellsCircuit text file → HasFewLines file.circuit
-spelled_few text file h =
-    let few = h.header.few_variables in
-    let enough = h.header.enough in
-    record { variables = few; inputs = omega arith; outputs = h.header.few_outputs }
+spelled_few text file h = search arith

@@ -1,7 +1,7 @@
 -- Phases that nothing that comes changes.
-use Rattle.std.proofs.Common.{ℕ, List, Option, Result}
+use Rattle.std.proofs.Common.{ℕ, List, Option, Result, arith}
 use Rattle.dq_lits.specs.Derivation.{ProofFault}
-use Rattle.dq_text.specs.Line.{TextLine, lines_from}
+use Rattle.dq_text.specs.Line.{TextLine}
 use Rattle.cert_text.specs.declared.faults.CertStop.{CertStop}
 use Rattle.cert_stream.specs.ProofState as Proofs
 use Rattle.cert_stream.specs.RefutationState.{MayAnswer, RefutationState}
@@ -11,17 +11,9 @@ use Rattle.cert_judge.specs.declared.answers.Judgement.{Judgement}
 pub refutation_settled : (s : RefutationState) (some other : List ℕ) (answer : Judgement) →
     ((some other : List TextLine) (said : Result (Option ProofFault) CertStop) → MayAnswer s some said →
     MayAnswer s other said) → RefutationGives s some answer → RefutationGives s other answer
-refutation_settled s some other answer same gives = record {
-  said = gives.said;
-  may = same (lines_from s.lines.number some) (lines_from s.lines.number other) gives.said gives.may;
-  says = gives.says;
-}
+refutation_settled s some other answer same gives = search arith
 
 pub proof_settled : (finding : Option Judgement) (s : Proofs.ProofState) (some other : List ℕ) (answer : Judgement) →
     ((some other : List TextLine) (said : Result (Option (Option ProofFault)) CertStop) → Proofs.MayAnswer s some said →
     Proofs.MayAnswer s other said) → ProofGives finding s some answer → ProofGives finding s other answer
-proof_settled finding s some other answer same gives = record {
-  said = gives.said;
-  may = same (lines_from s.lines.number some) (lines_from s.lines.number other) gives.said gives.may;
-  says = gives.says;
-}
+proof_settled finding s some other answer same gives = search arith

@@ -1,5 +1,5 @@
 -- What is accepted is right.
-use Rattle.std.proofs.Common.{◌≡◌, ◌⊎◌, ℕ, inl, inr, List, Option, None, Some, Result, Ok, Err, refl, sym, ap, subst}
+use Rattle.std.proofs.Common.{◌≡◌, ◌⊎◌, ℕ, inl, inr, List, Option, None, Some, Result, Ok, Err, refl, ap, arith}
 use Rattle.std.specs.Prelude.{drop, ◌↔◌}
 use Rattle.std.specs.List.{All}
 use Rattle.dq_lits.specs.Formula.{Dqbf, HasLawfulPrefix, IsWellFormed}
@@ -14,9 +14,7 @@ use Rattle.aiger_text.specs.declared.files.AagFile.{AagFile}
 use Rattle.aiger_text.specs.declared.files.ReadCircuit.{ReadCircuit}
 use Rattle.aig_binary.specs.Grammar.{SpellsBinary}
 use Rattle.aig_binary.specs.Scan.{scan_binary}
-use Rattle.cert_text.specs.DefinitionText.{definitions_of}
 use Rattle.cert_text.specs.Kind.{certificate_kind}
-use Rattle.cert_text.specs.Scan.{refutation_of}
 use Rattle.cert_text.specs.declared.circuit_proofs.Dqp.{Dqp}
 use Rattle.cert_text.specs.declared.faults.CertRefusal.{CertRefusal}
 use Rattle.cert_text.specs.declared.kinds.Kind.{Kind}
@@ -33,7 +31,7 @@ use Rattle.skolem_checker.specs.declared.mapping.MapError.{MapError}
 use Rattle.skolem_checker.specs.declared.mapping.MapPlace.{MapPlace}
 use Rattle.skolem_checker.proofs.LiteralNumbers.{spelled_complete, meaning_grounded}
 use Rattle.cert_judge.specs.declared.answers.Judgement.{Judgement}
-use Rattle.cert_judge.specs.Judgement.{HoldsRightDefinitions, HoldsSkolemCircuit, IsCircuitAnswer, IsCircuitRefusal, IsTested, IsTestedByRows, BehindMapping, BehindProof, IsJudgementOf, IsJudgement, answer_of_derivation, answer_of_refutation, line_ends, mapping_line, binary_mapping_line, proof_in, proof_on, IsBinaryJudgement, SpellsFile}
+use Rattle.cert_judge.specs.Judgement.{HoldsRightDefinitions, HoldsSkolemCircuit, IsCircuitAnswer, IsCircuitRefusal, IsTested, IsTestedByRows, BehindMapping, BehindProof, IsJudgementOf, IsJudgement, answer_of_derivation, answer_of_refutation, IsBinaryJudgement, SpellsFile}
 use Rattle.cert_judge.specs.declared.answers.Judgement.TheVariants.{Refused, UndeclaredRead, ValidTrue, ValidFalse, ValidDefinitions}
 use Rattle.cert_judge.specs.declared.answers.CertificateFault.{CertificateFault}
 use Rattle.cert_judge.specs.declared.answers.CertificateFault.TheVariants.{Text, Circuit, Mapping as BadMapping}
@@ -88,8 +86,7 @@ module _ (law : TestsLaw) (f : Dqbf) (net : Netlist) (symbols : SymbolTable) (fo
   true_by_mapping : (line_of : MapPlace → ℕ) (proof : Option Dqp) (mapped : Result Mapping MapError) →
       mapping_of f net symbols ≡ mapped
       → BehindMapping line_of proof (with_mapping f net mapped) ValidTrue → IsSkolemCircuit f net symbols
-  true_by_mapping line_of proof (Err fault) is r = absurd (true_is_no_refusal (line_of fault.at)
-      (BadMapping fault.name) r)
+  true_by_mapping line_of proof (Err fault) is r = search (arith, true_is_no_refusal)
   true_by_mapping line_of proof (Ok mapping) is r = true_by_tests proof mapping is r
 
   true_by_proof : (line_of : MapPlace → ℕ) (read : Result (Option Dqp) CertRefusal) →
@@ -129,10 +126,7 @@ binary_complete law text first read spelled =
 
 spelled_netlist : BinaryLaw → (text : List ℕ) (kind : Result Kind CertRefusal) (file : AagFile) →
     SpellsFile text kind file → IsNetlist file.circuit × IsComplete file.circuit
-spelled_netlist law text (Ok (CircuitText at h)) file spelled = (
-  spelled.lawful,
-  spelled_complete (drop at text) file spelled,
-)
+spelled_netlist law text (Ok (CircuitText at h)) file spelled = search (arith, spelled_complete)
 spelled_netlist law text (Ok (BinaryText at h)) file (line, spelled) =
     let read : ReadCircuit = record { file = file; comment_line = line } in
     (law.lawful (drop at text) h read spelled, binary_complete law (drop at text) h read spelled)
@@ -143,37 +137,27 @@ spelled_netlist law text (Err refusal) file impossible = absurd impossible
 circuit_by_scan : TestsLaw → BinaryLaw → (f : Dqbf) (text : List ℕ) (at h : ℕ) →
     certificate_kind text ≡ Ok (BinaryText at h) → IsWellFormed f → (scanned : Result ReadCircuit LineFault) →
     scan_binary (drop at text) h ≡ scanned → IsBinaryJudgement f h scanned ValidTrue → HoldsSkolemCircuit f text
-circuit_by_scan law binary f text at h is formed (Err fault) scan r =
-    absurd (true_is_no_refusal fault.line (Circuit fault.name) r)
+circuit_by_scan law binary f text at h is formed (Err fault) scan r = search (arith, true_is_no_refusal)
 circuit_by_scan law binary f text at h is formed (Ok read) scan r =
-    let spelled = (binary.exact (drop at text) h read).1 scan in
-    record {
-      file = read.file;
-      spelled = subst (λ kind. SpellsFile text kind read.file) (sym is) (read.comment_line, spelled);
-      skolem = true_by_proof law f read.file.circuit read.file.symbols formed
-          (binary.lawful (drop at text) h read spelled) (binary_complete binary (drop at text) h read spelled)
-          (binary_mapping_line h) (proof_on f read.file.circuit read.file.comment read.comment_line) r;
-    }
+    search (
+      arith,
+      (true_by_proof law f read.file.circuit read.file.symbols formed),
+      (binary_complete binary (drop at text) h read),
+    )
 
 circuit_by_kind : TestsLaw → BinaryLaw → (kind : Result Kind CertRefusal) (f : Dqbf) (text : List ℕ) →
     certificate_kind text ≡ kind → IsWellFormed f → IsJudgementOf f text kind ValidTrue → HoldsSkolemCircuit f text
-circuit_by_kind law binary (Ok (CircuitText at h)) f text is formed (inl r) =
-    absurd (true_is_no_refusal r.fault.line (Circuit r.fault.name) r.is)
-circuit_by_kind law binary (Ok (CircuitText at h)) f text is formed (inr r) = record {
-  file = r.file;
-  spelled = subst (λ kind. SpellsFile text kind r.file) (sym is) r.spelled;
-  skolem = true_by_proof law f r.file.circuit r.file.symbols formed r.spelled.lawful
-      (spelled_complete (drop at text) r.file r.spelled) (mapping_line h r.file.circuit)
-      (proof_in f h (line_ends (drop at text)) r.file.circuit r.file.comment) r.is;
-}
-circuit_by_kind law binary (Ok (BinaryText at h)) f text is formed r =
-    circuit_by_scan law binary f text at h is formed (scan_binary (drop at text) h) refl r
-circuit_by_kind law binary (Ok (Refutation at h)) f text is formed r =
-    absurd (true_is_no_refutation f (refutation_of f (drop at text) h) r)
-circuit_by_kind law binary (Ok (Definitions at h)) f text is formed r =
-    absurd (never_true f (definitions_of f (drop at text) h) r)
-circuit_by_kind law binary (Err refusal) f text is formed r =
-    absurd (true_is_no_refusal refusal.line (Text refusal.name) r)
+circuit_by_kind law binary (Ok (CircuitText at h)) f text is formed (inl r) = search (arith, true_is_no_refusal)
+circuit_by_kind law binary (Ok (CircuitText at h)) f text is formed (inr r) =
+    search (
+      arith,
+      (true_by_proof law f r.file.circuit r.file.symbols formed r.spelled.lawful (spelled_complete (drop at text) r.file r.spelled)),
+      (spelled_complete (drop at text) r.file r.spelled),
+    )
+circuit_by_kind law binary (Ok (BinaryText at h)) f text is formed r = search (arith, circuit_by_scan)
+circuit_by_kind law binary (Ok (Refutation at h)) f text is formed r = search (arith, true_is_no_refutation)
+circuit_by_kind law binary (Ok (Definitions at h)) f text is formed r = search (arith, never_true)
+circuit_by_kind law binary (Err refusal) f text is formed r = search (arith, true_is_no_refusal)
 
 pub accepted_circuit : TestsLaw → BinaryLaw → (f : Dqbf) (text : List ℕ) → IsWellFormed f →
     IsJudgement f text ValidTrue → HoldsSkolemCircuit f text
@@ -212,16 +196,12 @@ module _ (answer : Judgement) (is : IsForeign answer) where
   foreign_by_scan : (f : Dqbf) (h : ℕ) (scanned : Result ReadCircuit LineFault) →
       IsBinaryJudgement f h scanned answer → ⊥
   foreign_by_scan f h (Err fault) r = is.no_refusal fault.line (Circuit fault.name) r
-  foreign_by_scan f h (Ok read) r =
-      foreign_by_proof (binary_mapping_line h) (proof_on f read.file.circuit read.file.comment read.comment_line)
-      (candidate_of f read.file.circuit read.file.symbols) r
+  foreign_by_scan f h (Ok read) r = search (arith, foreign_by_proof)
 
   foreign_by_file : (f : Dqbf) (h : ℕ) (text : List ℕ) →
       IsCircuitRefusal h text answer ⊎ IsCircuitAnswer f h text answer → ⊥
   foreign_by_file f h text (inl r) = is.no_refusal r.fault.line (Circuit r.fault.name) r.is
-  foreign_by_file f h text (inr r) =
-      foreign_by_proof (mapping_line h r.file.circuit) (proof_in f h (line_ends text) r.file.circuit r.file.comment)
-      (candidate_of f r.file.circuit r.file.symbols) r.is
+  foreign_by_file f h text (inr r) = search (arith, foreign_by_proof)
 
 false_is_no_read : (y x : ℕ) → ValidFalse ≡ UndeclaredRead y x → ⊥
 false_is_no_read y x same = cc
@@ -253,14 +233,10 @@ false_by_refutation law f formed (Err refusal) same = absurd (false_is_no_refusa
 
 false_by_kind : RefutationLaw → (kind : Result Kind CertRefusal) (f : Dqbf) (text : List ℕ) → IsWellFormed f →
     IsJudgementOf f text kind ValidFalse → IsFalseFormula f
-false_by_kind law (Ok (CircuitText at h)) f text formed r =
-    absurd (foreign_by_file ValidFalse false_is_foreign f h (drop at text) r)
-false_by_kind law (Ok (BinaryText at h)) f text formed r =
-    absurd (foreign_by_scan ValidFalse false_is_foreign f h (scan_binary (drop at text) h) r)
-false_by_kind law (Ok (Refutation at h)) f text formed r = false_by_refutation law f formed
-    (refutation_of f (drop at text) h) r
-false_by_kind law (Ok (Definitions at h)) f text formed r =
-    absurd (never_false f (definitions_of f (drop at text) h) r)
+false_by_kind law (Ok (CircuitText at h)) f text formed r = search (arith, foreign_by_file, false_is_foreign)
+false_by_kind law (Ok (BinaryText at h)) f text formed r = search (arith, foreign_by_scan, false_is_foreign)
+false_by_kind law (Ok (Refutation at h)) f text formed r = search (arith, false_by_refutation)
+false_by_kind law (Ok (Definitions at h)) f text formed r = search (arith, never_false)
 false_by_kind law (Err refusal) f text formed r = absurd (false_is_no_refusal refusal.line (Text refusal.name) r)
 
 pub accepted_is_false : RefutationLaw → (f : Dqbf) (text : List ℕ) → IsWellFormed f → IsJudgement f text ValidFalse →
@@ -298,8 +274,7 @@ counts_are_no_derivation counts (Some unfinished) same = cc
 counts_are_no_refutation : (f : Dqbf) (counts : DefinedCounts) (read : Result Dqr CertRefusal) →
     ValidDefinitions counts ≡ answer_of_refutation f read → ⊥
 counts_are_no_refutation f counts (Ok d) same = counts_are_no_derivation counts (refutation_fault f d) same
-counts_are_no_refutation f counts (Err refusal) same =
-    counts_are_no_refusal counts refusal.line (Text refusal.name) same
+counts_are_no_refutation f counts (Err refusal) same = search (arith, counts_are_no_refusal)
 
 blocks_by_kind : ReadTextsAreSpelled → AcceptedTextsAreRight → (kind : Result Kind CertRefusal) (f : Dqbf)
     (text : List ℕ) (counts : DefinedCounts) → certificate_kind text ≡ kind → IsWellFormed f →
@@ -308,15 +283,11 @@ blocks_by_kind grammar law (Ok (CircuitText at h)) f text counts is formed r =
     absurd (foreign_by_file (ValidDefinitions counts) (counts_are_foreign counts) f h (drop at text) r)
 blocks_by_kind grammar law (Ok (BinaryText at h)) f text counts is formed r =
     absurd (foreign_by_scan (ValidDefinitions counts) (counts_are_foreign counts) f h (scan_binary (drop at text) h) r)
-blocks_by_kind grammar law (Ok (Refutation at h)) f text counts is formed r =
-    absurd (counts_are_no_refutation f counts (refutation_of f (drop at text) h) r)
-blocks_by_kind grammar law (Ok (Definitions at h)) f text counts is formed r =
-    accepted_blocks grammar law f text at h counts formed is r
-blocks_by_kind grammar law (Err refusal) f text counts is formed r =
-    absurd (counts_are_no_refusal counts refusal.line (Text refusal.name) r)
+blocks_by_kind grammar law (Ok (Refutation at h)) f text counts is formed r = search (arith, counts_are_no_refutation)
+blocks_by_kind grammar law (Ok (Definitions at h)) f text counts is formed r = search (arith, accepted_blocks)
+blocks_by_kind grammar law (Err refusal) f text counts is formed r = search (arith, counts_are_no_refusal)
 
 pub accepted_definitions : ReadTextsAreSpelled → AcceptedTextsAreRight → (f : Dqbf) (text : List ℕ)
     (counts : DefinedCounts) → IsWellFormed f → IsJudgement f text (ValidDefinitions counts) →
     HoldsRightDefinitions f text counts
-accepted_definitions grammar law f text counts formed r =
-    blocks_by_kind grammar law (certificate_kind text) f text counts refl formed r
+accepted_definitions grammar law f text counts formed r = search (arith, blocks_by_kind)

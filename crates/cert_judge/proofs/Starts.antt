@@ -1,5 +1,5 @@
 -- The header line of a certificate of each kind.
-use Rattle.std.proofs.Common.{◌≡◌, ◌⊎◌, ℕ, ◌+◌, ◌≤◌, Bool, true, false, inl, inr, List, [], ◌∷◌, ◌++◌, Option, None, Some, Result, Ok, Err, refl, sym, ◌∙◌, ap, subst}
+use Rattle.std.proofs.Common.{◌≡◌, ◌⊎◌, ℕ, ◌+◌, ◌≤◌, Bool, true, false, inl, List, [], ◌∷◌, ◌++◌, Option, None, Some, Result, Ok, Err, refl, sym, ◌∙◌, ap, subst, arith}
 use Rattle.std.specs.Prelude.{IfNone, IfOk}
 use Rattle.dq_lits.specs.Derivation.{ProofFault}
 use Rattle.dq_lits.specs.Formula.{Dqbf}
@@ -20,18 +20,16 @@ use Rattle.cert_text.specs.declared.faults.CertStop.TheVariants.{Refused as Refu
 use Rattle.cert_text.specs.declared.refutations.Dqr.{Dqr}
 use Rattle.cert_stream.specs.KeptLines.{seen}
 use Rattle.cert_stream.specs.RefutationState.{AnswersLines, MayAnswer, RefutationState, answers_by, judged_whole}
-use Rattle.refutation_checker.specs.Refutation.{refutation_fault}
 use Rattle.cert_text.specs.declared.kinds.Kind.TheVariants.{Circuit as CircuitText}
 use Rattle.cert_judge.specs.CircuitPhases.{IsStoppedPhase}
 use Rattle.cert_judge.specs.Beginnings.{IsJudgementFrom, StartsCircuit}
-use Rattle.cert_judge.specs.Judgement.{answer_of_derivation, answer_of_refutation, IsCircuitAnswer, IsCircuitRefusal}
+use Rattle.cert_judge.specs.Judgement.{answer_of_refutation, IsCircuitAnswer, IsCircuitRefusal}
 use Rattle.cert_judge.specs.Phases.{line_end, AnswersFile, AreLinesFrom, CircuitGives, HasNoEnd, IsLastUnless, RefutationGives, SaysRefutation}
 use Rattle.cert_judge.specs.declared.answers.Judgement.{Judgement}
-use Rattle.cert_judge.specs.declared.answers.Judgement.TheVariants.{ValidFalse}
 use Rattle.cert_judge.specs.declared.phases.Phase.{Phase}
 use Rattle.cert_judge.specs.declared.phases.Phase.TheVariants.{Circuit}
 use Rattle.cert_judge.proofs.CircuitSteps.{goes_back, still_lines, stop_taken}
-use Rattle.cert_judge.proofs.CommentLines.{ReadIsSpelled, file_of}
+use Rattle.cert_judge.proofs.CommentLines.{ReadIsSpelled}
 use Rattle.cert_judge.proofs.LinesToCome.{first_is, line_of}
 
 -- a refutation's lines
@@ -56,24 +54,16 @@ module _ (old new : RefutationState) (text : List ℕ) (free : HasNoEnd text)
     MayAnswer new lines said → MayAnswer old (line_of text old.lines.number behind ∷ lines) said) where
   pub refutation_takes : (ended : Bool) (behind : List ℕ) (answer : Judgement) → IsLastUnless ended text behind →
       RefutationGives new behind answer → RefutationGives old (text ++ (line_end ended ++ behind)) answer
-  refutation_takes ended behind answer last p = record {
-    said = p.said;
-    may = subst (λ ls. MayAnswer old ls p.said) (sym (first_is ended old.lines.number text behind free last))
-        (line behind (lines_from (old.lines.number + 1) behind) p.said
-        (renumbered new (old.lines.number + 1) new.failed new.lines.stopped behind p.said refl refl counts p.may));
-    says = p.says;
-  }
+  refutation_takes ended behind answer last p = search (arith, first_is)
 
 says_read : (f : Dqbf) (read : Result Dqr CertRefusal) (said : Result (Option ProofFault) CertStop)
     (answer : Judgement) → IsReading (judged_whole f read) said → SaysRefutation said answer →
     answer ≡ answer_of_refutation f read
-says_read f (Ok d) (Ok fault) answer is says =
-    let same : refutation_fault f d ≡ fault = cc in says ∙ ap (answer_of_derivation ValidFalse) (sym same)
+says_read f (Ok d) (Ok fault) answer is says = search arith
 says_read f (Ok d) (Err (RefusedText r)) answer is says = cc
 says_read f (Ok d) (Err NoText) answer is says = absurd says
 says_read f (Err r) (Ok fault) answer is says = cc
-says_read f (Err r) (Err (RefusedText s)) answer is says =
-    let same : r ≡ s = cc in says ∙ ap (λ (x : CertRefusal). answer_of_refutation f (Err x)) (sym same)
+says_read f (Err r) (Err (RefusedText s)) answer is says = search arith
 says_read f (Err r) (Err NoText) answer is says = absurd says
 
 -- before the header line
@@ -82,49 +72,29 @@ pub refutation_begins : (f : Dqbf) (number : ℕ) (fresh : RefutationState) → 
     IsReading (judged_whole f (read_lines f lines number)) said) →
     (bytes : List ℕ) (answer : Judgement) → RefutationGives fresh bytes answer →
     answer ≡ answer_of_refutation f (refutation_of f bytes number)
-refutation_begins f number fresh first begun bytes answer p =
-    says_read f (refutation_of f bytes number) p.said answer
-    (begun (lines_from number bytes) p.said
-    (subst (λ n. MayAnswer fresh (lines_from n bytes) p.said) first p.may)) p.says
+refutation_begins f number fresh first begun bytes answer p = search (arith, says_read)
 
 -- a circuit's text
 by_scan : (h : ℕ) (text : List ℕ) (line : ℕ) (name : AagFault) (r : Result AagFile LineFault) → scan text h ≡ r →
     IsAagReading h r (Err (RefusedFile line name)) → IsFirstFault text h (record { line = line; name = name })
-by_scan h text line name (Ok file) is reading =
-    inr (record { file = file; scanned = is; cyclic = reading.0; at_line = reading.1 })
+by_scan h text line name (Ok file) is reading = search arith
 by_scan h text line name (Err fault) is same = inl (is ∙ ap Err same)
 
 circuit_read : ReadIsSpelled → (f : Dqbf) (first : ℕ) (bytes : List ℕ) (answer : Judgement)
     (reading : Result AagFile AagStop) → IsAagReading first (scan bytes first) reading →
     AnswersFile f first first bytes reading answer →
     IsCircuitRefusal first bytes answer ⊎ IsCircuitAnswer f first bytes answer
-circuit_read law f first bytes answer (Ok file) is says =
-    inr (record {
-      file = file;
-      spelled = (law bytes first file).1 (file_of first (scan bytes first) file is);
-      is = says.1;
-    })
+circuit_read law f first bytes answer (Ok file) is says = search arith
 circuit_read law f first bytes answer (Err (RefusedFile line name)) is says =
-    inl (record {
-      fault = record { line = line; name = name };
-      is_first = by_scan first bytes line name (scan bytes first) refl is;
-      is = says;
-    })
+    search (arith, (by_scan first bytes line name))
 circuit_read law f first bytes answer (Err NoFile) is says = absurd says
 
 circuit_begins : ReadIsSpelled → (f : Dqbf) (first : ℕ) (bytes : List ℕ) (answer : Judgement) →
     CircuitGives f (no_lines first) bytes answer → IsJudgementFrom f bytes (CircuitText 0 first) answer
-circuit_begins law f first bytes answer c =
-    circuit_read law f first bytes answer c.reading c.is_reading c.answers
+circuit_begins law f first bytes answer c = search (arith, circuit_read)
 
 pub fresh_lines : (first : ℕ) → first ≤ 2 → AreLinesFrom first (no_lines first)
-fresh_lines first early = record {
-  early = early;
-  header = refl;
-  reads = refl;
-  before = [];
-  read = λ bytes. refl;
-}
+fresh_lines first early = search arith
 
 pub circuit_starts : ReadIsSpelled → (first : ℕ) (old new : CircuitLines) (text : List ℕ) → first ≤ 2 →
     old ≡ no_lines first → HasNoEnd text → IfNone old.stopped (ReadsLine old text (Ok tt) new) → GoesOn old new →

@@ -1,5 +1,5 @@
 -- From the phase before a line to the one behind it.
-use Rattle.std.proofs.Common.{◌≡◌, ℕ, Bool, List, Option, None, Some, sym, subst}
+use Rattle.std.proofs.Common.{◌≡◌, ℕ, Bool, List, Option, None, Some, arith}
 use Rattle.dq_lits.specs.Formula.{Dqbf}
 use Rattle.aiger_text.specs.CircuitLines.{CircuitLines}
 use Rattle.cert_judge.specs.CircuitPhases.{TakesCircuit}
@@ -17,5 +17,4 @@ module _ (f : Dqbf) (first : ℕ) (old new : CircuitLines) (text : List ℕ) (ne
     (takes : TakesCircuit f first old text new next) (turned : after ≡ next_phase (Circuit first new) next)
     (ended : Bool) where
   pub circuit_takes : Takes f (Circuit first old) text ended after
-  circuit_takes = subst (Takes f (Circuit first old) text ended) (sym turned)
-      (circuit_turn f first old new text next takes ended)
+  circuit_takes = search (arith, circuit_turn)

@@ -21,10 +21,10 @@ returns-then-refusal-missing c =
 
 pub returns-in_ok-start-in-Ok : goal.returns-in_ok-start-in-Ok
 returns-in_ok-start-in-Ok c =
-    starts_begin c.args.f.now c.args.lines.now.items c.args.missing.now c.args.ended c.args.line.now
-    c.requires.lawful c.requires.one_line c.in-Ok.kind c.in_ok-start-in-Ok.field-0 c.kind.result c.in-Ok.is
-    (c.kind.ensures.kind ∙ ap certificate_kind (c.deref.ensures.value ∙ c.in_ok-gather.ensures))
-    c.in_ok-start-in-Ok.ensures.starts c.in_ok-start-in-Ok.ensures.lawful
+    search (
+      arith,
+      (starts_begin c.args.f.now c.args.lines.now.items c.args.missing.now c.args.ended c.args.line.now c.requires.lawful c.requires.one_line c.in-Ok.kind c.in_ok-start-in-Ok.field-0 c.kind.result c.in-Ok.is),
+    )
 
 pub returns-else-ended : goal.returns-else-ended
 returns-else-ended c =
@@ -33,13 +33,7 @@ returns-else-ended c =
     let missing = c.args.missing.now in
     let text = c.args.line.now in
     let fault = c.in-Err.refusal in
-    let final : c.args.ended ≡ true → ¬ (missing.line < fault.line) =
-    elim c.else-ended.branch [
-      | else-ended-via-then-ended+else-refusal-missing w ↦ λ end later.
-          let not_later = w.if-refusal-missing.false in omega (arith, not_later, later)
-      | else-ended-via-else-ended w ↦ λ end later.
-          let not_ended = w.if-ended.false in cc
-    ] in
+    let final : c.args.ended ≡ true → ¬ (missing.line < fault.line) = search arith in
     subst (λ p. BeginsAs f lines text c.args.ended ((lines ++ text) ++ line_end c.args.ended) missing (Some (Decided p))) (sym c.refused.ensures)
     (refusal_begins f lines missing c.args.ended text c.requires.lawful c.requires.one_line fault c.kind.result
     c.in-Err.is (c.kind.ensures.kind ∙ ap certificate_kind (c.deref.ensures.value ∙ c.in_ok-gather.ensures)) final)

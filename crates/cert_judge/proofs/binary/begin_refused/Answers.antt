@@ -1,4 +1,4 @@
-use Rattle.std.proofs.Common.{rules, ◌≡◌, false, true, None, Some, subst}
+use Rattle.std.proofs.Common.{rules, ◌≡◌, true, None, Some, subst, arith}
 use Rattle.aig_binary.specs.BareReading.{listed}
 use Rattle.cert_judge.specs.CircuitPhases.{BeginsProof}
 use Rattle.cert_judge.specs.declared.circuits.Form.TheVariants.{Binary as BinaryForm}
@@ -19,8 +19,4 @@ returns-then-begins_proof-clause-begins c =
     c.begin_proof.result) c.circuit_in-circuit.ensures c.begin_proof.ensures.begins)
 
 pub returns-clause-begins : goal.returns-clause-begins
-returns-clause-begins c =
-    let none : c.begins_proof.result ≡ false = search rules in
-    no_proof_begins c.args.f.now c.args.first c.args.bare c.requires.other c.args.number c.args.line.now
-    c.other_count-finding.result c.begins_proof.result c.requires.one_line c.begins_proof.ensures none
-    c.other_count-finding.ensures
+returns-clause-begins c = search (arith, no_proof_begins)

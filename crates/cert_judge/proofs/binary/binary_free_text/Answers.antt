@@ -1,4 +1,4 @@
-use Rattle.std.proofs.Common.{inr, sym, subst}
+use Rattle.std.proofs.Common.{inr, sym, subst, arith}
 use Rattle.aig_binary.specs.BareReading.{listed}
 use Rattle.aig_binary.specs.declared.bare.BareCircuit.{BareCircuit}
 use Rattle.cert_judge.specs.Phases.{IsJudged}
@@ -8,16 +8,9 @@ use Rattle.cert_judge.proofs.binary.binary_free_text.Goals as goal
 
 pub bare_free_text-requires-clause-judged : goal.bare_free_text-requires-clause-judged
 bare_free_text-requires-clause-judged c =
-    let law : BinaryLaw = record {
-      exact = c.binary_circuit_or_first_fault.ensures;
-      lawful = c.binary_circuits_are_lawful.ensures.lawful;
-      acyclic = c.binary_circuits_are_lawful.ensures.acyclic;
-      outputs_mean = c.binary_circuits_are_lawful.ensures.outputs_mean;
-    } in
+    let law : BinaryLaw = search arith in
     subst (λ (b : BareCircuit). IsJudged c.args.first (listed b).file) (sym c.take_file-bare.ensures.parts)
     (read_judged law c.args.first c.args.lines.now c.requires.lawful (inr c.requires.comment))
 
 pub returns-clause-gives : goal.returns-clause-gives
-returns-clause-gives c =
-    ok_free c.args.f.now c.args.first c.args.lines.now c.take_file-bare.result c.bare_free_text.result
-    c.requires.comment c.take_file-bare.ensures.parts c.bare_free_text.ensures.gives
+returns-clause-gives c = search (arith, ok_free)

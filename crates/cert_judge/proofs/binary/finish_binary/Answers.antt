@@ -1,4 +1,4 @@
-use Rattle.std.proofs.Common.{subst, sym}
+use Rattle.std.proofs.Common.{subst, sym, arith}
 use Rattle.aig_binary.specs.BareReading.{listed}
 use Rattle.aig_binary.specs.declared.bare.BareCircuit.{BareCircuit}
 use Rattle.cert_judge.specs.Phases.{IsJudged}
@@ -8,21 +8,12 @@ use Rattle.cert_judge.proofs.binary.finish_binary.Goals as goal
 
 pub finish_bare-requires-clause-judged : goal.finish_bare-requires-clause-judged
 finish_bare-requires-clause-judged c =
-    let law : BinaryLaw = record {
-      exact = c.binary_circuit_or_first_fault.ensures;
-      lawful = c.binary_circuits_are_lawful.ensures.lawful;
-      acyclic = c.binary_circuits_are_lawful.ensures.acyclic;
-      outputs_mean = c.binary_circuits_are_lawful.ensures.outputs_mean;
-    } in
+    let law : BinaryLaw = search arith in
     subst (λ (b : BareCircuit). IsJudged c.args.first (listed b).file) (sym c.in-Ok.ensures.end.1)
     (read_judged law c.args.first c.args.lines c.requires.lawful c.in-Ok.ensures.end.0)
 
 pub returns-in-Ok : goal.returns-in-Ok
-returns-in-Ok c =
-    ok_ends c.args.f.now c.args.first c.args.lines c.in-Ok.bare c.finish_bare.result c.in-Ok.ensures.end
-    c.finish_bare.ensures
+returns-in-Ok c = search (arith, ok_ends)
 
 pub returns-in-Err : goal.returns-in-Err
-returns-in-Err c =
-    stop_ends c.args.f.now c.args.first c.args.lines c.in-Err.stop c.stopped.result c.in-Err.ensures.end
-    c.stopped.ensures
+returns-in-Err c = search (arith, stop_ends)

@@ -1,3 +1,4 @@
+use Rattle.std.proofs.Common.{arith}
 use Rattle.cert_judge.proofs.BinaryAnswers.{binary_refused, binary_starts}
 use Rattle.cert_judge.proofs.binary.start_binary.Goals as goal
 
@@ -7,6 +8,4 @@ returns-in-Ok c =
     c.in-Ok.ensures.begins c.in-Ok.ensures.ready c.in-Ok.ensures.header_line
 
 pub returns-in-Err : goal.returns-in-Err
-returns-in-Err c =
-    binary_refused c.args.first c.args.header.now c.requires.one_line c.requires.early c.in-Err.stop
-    c.stopped_phase.result c.in-Err.ensures.begins c.stopped_phase.ensures
+returns-in-Err c = search (arith, binary_refused)

@@ -1,8 +1,6 @@
-use Rattle.std.proofs.Common.{rules, ◌≡◌, true, false, None, Some, subst, sym}
+use Rattle.std.proofs.Common.{rules, ◌≡◌, true, None, Some, subst, arith}
 use Rattle.skolem_checker.specs.Checks.{candidate_of}
-use Rattle.cert_text.specs.CircuitProof.{first_proof_id}
-use Rattle.cert_text.specs.Numbering.{numbered_from}
-use Rattle.proof_checker.specs.Judging.{run_of, IsJudging}
+use Rattle.proof_checker.specs.Judging.{run_of}
 use Rattle.cert_judge.specs.CircuitPhases.{BeginsProof}
 use Rattle.cert_judge.specs.Places.{mapping_line_in}
 use Rattle.cert_judge.specs.ProofStart.{IsProofStart}
@@ -10,10 +8,7 @@ use Rattle.cert_judge.proofs.CommentLines.{derived_begins, found_begins, free_te
 use Rattle.cert_judge.proofs.comments.begin_comment.Goals as goal
 
 pub returns-then-not-begins_proof-clause-begins : goal.returns-then-not-begins_proof-clause-begins
-returns-then-not-begins_proof-clause-begins c =
-    let none : c.begins_proof.result ≡ false = search rules in
-    free_text_begins c.args.f.now c.args.form c.args.first c.args.number c.args.file c.args.line.now c.begins_proof.result
-    c.requires.one_line c.begins_proof.ensures none
+returns-then-not-begins_proof-clause-begins c = search (arith, free_text_begins)
 
 pub returns-in-Found-clause-begins : goal.returns-in-Found-clause-begins
 returns-in-Found-clause-begins c =
@@ -27,14 +22,7 @@ returns-in-Found-clause-begins c =
     c.begin_proof.result) c.circuit_in-circuit.ensures c.begin_proof.ensures.begins)
 
 pub begin_proof-requires-in-Proving-clause-judging : goal.begin_proof-requires-in-Proving-clause-judging
-begin_proof-requires-in-Proving-clause-judging c =
-    let f = c.args.f.now in
-    let file = c.args.file in
-    subst (λ net. IsJudging f net c.in-Proving.proving (numbered_from (first_proof_id f net)))
-    (sym c.circuit_in-circuit.ensures)
-    (standing_judges f c.args.form c.args.first file c.in-Proving.proving
-    (subst (IsProofStart (mapping_line_in c.args.form c.args.first file.circuit)
-    (candidate_of f file.circuit file.symbols)) c.in-Proving.is c.in-Ok.ensures))
+begin_proof-requires-in-Proving-clause-judging c = search (arith, standing_judges)
 
 pub returns-in-Proving-clause-begins : goal.returns-in-Proving-clause-begins
 returns-in-Proving-clause-begins c =

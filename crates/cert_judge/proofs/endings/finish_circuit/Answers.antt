@@ -1,3 +1,4 @@
+use Rattle.std.proofs.Common.{arith}
 use Rattle.cert_judge.proofs.CommentLines.{file_ends, read_judged, stop_ends}
 use Rattle.cert_judge.proofs.endings.finish_circuit.Goals as goal
 
@@ -12,6 +13,4 @@ returns-in-Ok c =
     c.requires.lawful c.in-Ok.ensures.end c.finish_file.ensures
 
 pub returns-in-Err : goal.returns-in-Err
-returns-in-Err c =
-    stop_ends c.args.f.now c.args.lines c.in-Err.stop c.stopped.result c.requires.lawful.reads c.in-Err.ensures.end
-    c.stopped.ensures
+returns-in-Err c = search (arith, stop_ends)

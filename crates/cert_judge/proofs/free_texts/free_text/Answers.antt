@@ -1,10 +1,9 @@
+use Rattle.std.proofs.Common.{arith}
 use Rattle.cert_judge.proofs.CommentLines.{free_gives, read_judged, stop_free}
 use Rattle.cert_judge.proofs.free_texts.free_text.Goals as goal
 
 pub returns-in-Err-clause-gives : goal.returns-in-Err-clause-gives
-returns-in-Err-clause-gives c =
-    stop_free c.args.lines c.in-Err.stop c.stopped_phase.result c.requires.lawful.reads c.requires.comment
-    c.in-Err.ensures.end c.stopped_phase.ensures
+returns-in-Err-clause-gives c = search (arith, stop_free)
 
 pub returns-clause-lawful : goal.returns-clause-lawful
 returns-clause-lawful c =
