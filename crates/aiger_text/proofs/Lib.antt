@@ -23,3 +23,4 @@ pub mod WrittenLines
 pub mod WrittenNetlist
 pub mod WrittenSymbols
 pub mod CircuitSteps
+pub mod DefinedVariables

@@ -7,7 +7,7 @@ use Rattle.circuit_plain.specs.declared.circuits.Gate.{Gate}
 use Rattle.dq_text.specs.Line.{TextLine, line_tokens}
 use Rattle.aiger_text.specs.Grammar.{naturals, input_numbers, output_numbers, gate_numbers}
 use Rattle.aiger_text.specs.Lines.{is_too_big, is_positive, is_literal, is_defined, numbers_of, with_input, with_output, with_gate, input_of, output_of, gate_of, input_line, output_line, gate_line}
-use Rattle.aiger_text.specs.ReaderState.{IsNewVariable, IsNewGate}
+use Rattle.aiger_text.specs.ReaderState.{IsNewVariable, gate_in_range}
 use Rattle.aiger_text.specs.Scan.{Body, LineFault, go_on, read_body}
 use Rattle.aiger_text.specs.declared.headers.Header.{Header}
 use Rattle.aiger_text.specs.declared.numbers.GateNumbers.{GateNumbers}
@@ -18,7 +18,7 @@ use Rattle.aiger_text.specs.declared.body.NextLine.TheVariants.{InputLine, Outpu
 use Rattle.aiger_text.proofs.NaturalTokens.{numbers_are}
 use Rattle.aiger_text.proofs.SpelledNetlist.{no_symbols, body_with, at_input, at_output, at_gate, on_part}
 use Rattle.aiger_text.proofs.Stages.{AddsItem, CompletesStage, stage_spelled}
-use Rattle.aiger_text.proofs.Variables.{is_new, is_new_gate, gate_in_range}
+use Rattle.aiger_text.proofs.Variables.{is_new, is_gate_of}
 
 unless_error : (b : Bool) (name : AagFault) (r : Result Netlist AagFault) (net : Netlist) →
     cond b (Err name) r ≡ Ok net → (b ≡ false) × (r ≡ Ok net)
@@ -236,18 +236,19 @@ module _ (header_line : ℕ) (h : Header) (file : AagFile) where
           let written : GateNumbers = record { lhs = found.0; left = found.1; right = found.2 } in
           let v = found.0 / 2 in
           let reads = reads_gate b.netlist on.net written found.4 in
-          let new : IsNewGate b.netlist written v = is_new_gate b.netlist written reads.in_range reads.fresh in
+          let own = is_gate_of b.netlist written reads.in_range in
           let positive = (and_parts (is_positive h.max_var found.0)
           (is_literal h.max_var found.1 && is_literal h.max_var found.2) reads.in_range).0 in
+          let new : IsNewVariable b.netlist v = is_new b.netlist found.0 positive reads.fresh in
           let fits : IsGate h.max_var (record { variable = v; left = found.1; right = found.2 }) =
-          record { variable = new.new.in_range; left = new.left; right = new.right } in
+          record { variable = new.in_range; left = own.left; right = own.right } in
           record {
             item = record { variable = v; left = found.1; right = found.2 };
             spelled = numbers_are tokens (found.0 ∷ found.1 ∷ found.2 ∷ []) found.3
                 (reads.small.0, (reads.small.1, (reads.small.2, tt)))
                 ∙ ap (λ n. naturals (n ∷ found.1 ∷ found.2 ∷ [])) (twice h.max_var found.0 positive);
             kept = keeps_gate b.netlist (record { variable = v; left = found.1; right = found.2 }) kept fits
-                new.new.undefined;
+                new.undefined;
             read = moved b next (with_gate b.netlist (record { variable = v; left = found.1; right = found.2 })) on.net
                 file reads.made_is on.goes;
           }

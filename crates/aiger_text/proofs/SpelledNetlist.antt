@@ -19,7 +19,8 @@ use Rattle.aiger_text.specs.declared.body.NextLine.{NextLine}
 use Rattle.aiger_text.specs.declared.body.NextLine.TheVariants.{InputLine, OutputLine, GateLine, SymbolLine}
 use Rattle.aiger_text.proofs.NaturalTokens.{numbers_from}
 use Rattle.aiger_text.proofs.Stages.{stage_read}
-use Rattle.aiger_text.proofs.Variables.{input_passes, gate_passes, gate_in_range}
+use Rattle.aiger_text.specs.ReaderState.{gate_in_range}
+use Rattle.aiger_text.proofs.Variables.{input_passes, gate_passes}
 
 abbrev pub no_symbols : SymbolTable
 no_symbols = record { inputs = []; outputs = [] }

@@ -4,10 +4,10 @@ use Rattle.std.specs.List.{list_any}
 use Rattle.std.proofs.lemmas.Bool.{and_parts, or_left, or_right, or_from, leb-true, eqb-true, eq-eqb, true≢false}
 use Rattle.std.proofs.lemmas.List.{get_or-map, length-map}
 use Rattle.std.proofs.lemmas.List.Folds.{list_any_at}
-use Rattle.circuit_plain.specs.Netlist.{Netlist, IsVariable, IsDefined, variable_of_gate}
+use Rattle.circuit_plain.specs.Netlist.{Netlist, IsVariable, IsLiteral, IsDefined, variable_of_gate}
 use Rattle.circuit_plain.specs.declared.circuits.Gate.{Gate}
 use Rattle.aiger_text.specs.Lines.{is_too_big, is_positive, is_literal, is_defined, with_input, with_gate, input_of, gate_of}
-use Rattle.aiger_text.specs.ReaderState.{IsNewVariable, IsNewGate}
+use Rattle.aiger_text.specs.ReaderState.{IsNewVariable, gate_in_range}
 use Rattle.aiger_text.specs.declared.numbers.GateNumbers.{GateNumbers}
 
 no_gate : Gate
@@ -42,10 +42,6 @@ pub input_passes : (net : Netlist) (l : ℕ) → is_too_big l ≡ false → is_p
     input_of net l ≡ Ok (with_input net (l / 2))
 input_passes net l small positive undefined = search arith
 
--- the checks of a gate's range
-abbrev pub gate_in_range : ℕ → GateNumbers → Bool
-gate_in_range max_var g = is_positive max_var g.lhs && (is_literal max_var g.left && is_literal max_var g.right)
-
 pub gate_passes : (net : Netlist) (g : GateNumbers) → is_too_big g.lhs ≡ false → is_too_big g.left ≡ false →
     is_too_big g.right ≡ false →
     gate_in_range net.max_var g ≡ true → is_defined net (g.lhs / 2) ≡ false →
@@ -53,17 +49,22 @@ pub gate_passes : (net : Netlist) (g : GateNumbers) → is_too_big g.lhs ≡ fal
     { variable = g.lhs / 2; left = g.left; right = g.right }))
 gate_passes net g lhs left right range undefined = search (arith, or_from)
 
-pub is_new_gate : (net : Netlist) (g : GateNumbers) → gate_in_range net.max_var g ≡ true →
-    is_defined net (g.lhs / 2) ≡ false → IsNewGate net g (g.lhs / 2)
-is_new_gate net g range undefined =
+-- a gate's numbers in range
+pub record IsGateOf (net : Netlist) (g : GateNumbers) : Type 0 where
+  pub even : g.lhs % 2 ≡ 0
+  pub variable : IsVariable net.max_var (g.lhs / 2)
+  pub left : IsLiteral net.max_var g.left
+  pub right : IsLiteral net.max_var g.right
+
+pub is_gate_of : (net : Netlist) (g : GateNumbers) → gate_in_range net.max_var g ≡ true → IsGateOf net g
+is_gate_of net g range =
     let parts = and_parts (is_positive net.max_var g.lhs) (is_literal net.max_var g.left && is_literal net.max_var
     g.right) range in
     let sides = and_parts (is_literal net.max_var g.left) (is_literal net.max_var g.right) parts.1 in
     let even = and_parts (g.lhs % 2 == 0) (nat_le 2 g.lhs && nat_le g.lhs (2 * net.max_var)) parts.0 in
     record {
-      variable = refl;
       even = eqb-true (g.lhs % 2) 0 even.0;
-      new = is_new net g.lhs parts.0 undefined;
+      variable = positive_range net.max_var g.lhs parts.0;
       left = leb-true g.left (2 * net.max_var + 1) sides.0;
       right = leb-true g.right (2 * net.max_var + 1) sides.1;
     }

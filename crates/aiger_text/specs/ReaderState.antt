@@ -1,8 +1,8 @@
 -- The reader's fields as the definitions see them.
-use Rattle.std.specs.Prelude.{◌≡◌, ℕ, ◌/◌, ◌%◌, ◌^◌, ◌<◌, ◌≤◌, length, Result, Ok, Err}
+use Rattle.std.specs.Prelude.{◌≡◌, ℕ, ◌^◌, ◌<◌, ◌≤◌, Bool, ◌&&◌, length, Result, Ok, Err}
 use Rattle.number_tables.specs.Numbers.{has_number}
-use Rattle.circuit_plain.specs.Netlist.{Netlist, IsVariable, IsLiteral, IsDefined}
-use Rattle.aiger_text.specs.Lines.{is_defined}
+use Rattle.circuit_plain.specs.Netlist.{Netlist, IsVariable, IsDefined}
+use Rattle.aiger_text.specs.Lines.{is_defined, is_positive, is_literal}
 use Rattle.aiger_text.specs.Scan.{Body}
 use Rattle.aiger_text.specs.Symbol.{SymbolTable}
 use Rattle.aiger_text.specs.declared.body.CircuitReader.{CircuitReader}
@@ -43,13 +43,10 @@ pub record IsNewVariable (net : Netlist) (v : ℕ) : Type 0 where
   pub in_range : IsVariable net.max_var v
   pub undefined : ¬ IsDefined net v
 
--- three numbers that are a gate whose variable is new
-pub record IsNewGate (net : Netlist) (numbers : GateNumbers) (v : ℕ) : Type 0 where
-  pub variable : v ≡ numbers.lhs / 2
-  pub even : numbers.lhs % 2 ≡ 0
-  pub new : IsNewVariable net v
-  pub left : IsLiteral net.max_var numbers.left
-  pub right : IsLiteral net.max_var numbers.right
+-- three numbers that are a gate's in range
+abbrev pub gate_in_range : ℕ → GateNumbers → Bool
+gate_in_range max_var g =
+    is_positive max_var g.lhs && (is_literal max_var g.left && is_literal max_var g.right)
 
 -- the netlist behind the line, or the line's fault, or want of memory
 abbrev pub IsNetlistOf : Result Netlist AagFault → Result (Unit {0}) LineStop → Netlist → Type 0

@@ -1,14 +1,17 @@
 //! The lines of inputs, outputs and gates.
 
-ghost use Rattle.std.specs.Prelude.{◌≡◌, ◌==◌, ◌<◌, ◌/◌, ◌^◌, ◌&&◌, length, MatchResult, OnOk, Ok, Err};
-ghost use Rattle.circuit_plain.specs.Netlist.{IsLiteral};
+ghost use Rattle.std.specs.Prelude.{◌≡◌, ◌<◌, ◌≤◌, ◌^◌, ◌||◌, true, length, if◌then◌else◌, MatchResult, OnOk, Ok, Err, Some, None};
+ghost use Rattle.circuit_plain.specs.Netlist.{Netlist, IsLiteral};
 ghost use Rattle.dq_text.specs.Line.{line_tokens};
-ghost use Rattle.aiger_text.specs.Lines.{numbers_of, is_positive, is_literal, with_input, with_output, with_gate, input_of, output_of, gate_of, input_line, output_line, gate_line};
+ghost use Rattle.aiger_text.specs.Lines.{numbers_of, is_positive, is_literal, is_too_big, with_input, with_output, input_of, output_of, gate_of, input_line, output_line, gate_line};
 ghost use Rattle.aiger_text.specs.Scan.{start, next_part};
-ghost use Rattle.aiger_text.specs.ReaderState.{body_of, IsSmall, IsCircuitReader, IsNetlistOf, SameElse, IsNewVariable, IsNewGate};
+ghost use Rattle.aiger_text.specs.ReaderState.{body_of, IsSmall, IsCircuitReader, IsNetlistOf, SameElse, IsNewVariable, gate_in_range};
+ghost use Rattle.aiger_text.specs.declared.faults.AagFault.{AagFault};
+ghost use Rattle.aiger_text.specs.declared.faults.AagFault.TheVariants.{TooBig, Range};
+ghost use Rattle.aiger_text.specs.declared.headers.TheConstants.{MAX_COUNT};
 
 use crate::faults::{AagFault, LineStop};
-use crate::headers::Header;
+use crate::headers::{Header, MAX_COUNT};
 use crate::numbers::{GateNumbers, one_number, three_numbers};
 use crate::symbols::Symbols;
 use circuit_plain::Circuit;
@@ -147,35 +150,37 @@ pub fn take_output(reader: &mut CircuitReader, line: &[u8]) -> Result<(), LineSt
     Ok(())
 }
 
-// The variable of the gate that a line's numbers are.
-fn gate_variable(reader: &CircuitReader, numbers: GateNumbers) -> Result<u64, AagFault>
-    requires { IsCircuitReader reader.now }
-    ensures { MatchResult result
-        (λ v. (gate_of reader.now.circuit numbers.lhs numbers.left numbers.right
-        ≡ Ok (with_gate reader.now.circuit
-        (record { variable = v; left = numbers.left; right = numbers.right })))
-        × IsNewGate reader.now.circuit numbers v)
-        (λ name. gate_of reader.now.circuit numbers.lhs numbers.left numbers.right ≡ Err name) }
+// What is wrong with a gate's numbers, whatever was defined before it.
+fn number_fault(max_var: u64, numbers: GateNumbers) -> Option<AagFault>
+    requires { max_var ≤ MAX_COUNT }
+    ensures none { result ≡ None → gate_in_range max_var numbers ≡ true }
+    ensures some { (name : AagFault) (net : Netlist) → result ≡ Some name → net.max_var ≡ max_var
+        → gate_of net numbers.lhs numbers.left numbers.right ≡ Err name }
+{
+    if is_gate_in_range(max_var, numbers) {
+        return None;
+    }
+    Some(range_fault(numbers))
+}
+
+// The fault of numbers that aren't a gate's in range.
+#[inline(never)]
+fn range_fault(numbers: GateNumbers) -> AagFault
+    ensures { result ≡ (if is_too_big numbers.lhs
+        || (is_too_big numbers.left || is_too_big numbers.right) then TooBig else Range) }
 {
     let GateNumbers { lhs, left, right } = numbers;
     if lhs >= TOO_BIG || left >= TOO_BIG || right >= TOO_BIG {
-        return Err(AagFault::TooBig);
+        AagFault::TooBig
+    } else {
+        AagFault::Range
     }
-    let max_var = reader.circuit.max_var();
-    if !is_gate_in_range(max_var, numbers) {
-        return Err(AagFault::Range);
-    }
-    if reader.defined.contains(lhs / 2) {
-        return Err(AagFault::DefinedTwice);
-    }
-    Ok(lhs / 2)
 }
 
 // Whether three numbers are a gate's in range.
 fn is_gate_in_range(max_var: u64, numbers: GateNumbers) -> bool
     requires { max_var < 2 ^ 62 }
-    ensures { result ≡ (is_positive max_var numbers.lhs
-        && (is_literal max_var numbers.left && is_literal max_var numbers.right)) }
+    ensures { result ≡ gate_in_range max_var numbers }
 {
     is_positive_literal(max_var, numbers.lhs)
         && is_literal_in_range(max_var, numbers.left)
@@ -192,11 +197,15 @@ pub fn take_gate(reader: &mut CircuitReader, line: &[u8]) -> Result<(), LineStop
     ensures ready { OnOk result (IsCircuitReader reader.new) }
 {
     let numbers = three_numbers(line, &mut reader.numbers)?;
-    let variable = gate_variable(reader, numbers)?;
+    if let Some(name) = number_fault(reader.circuit.max_var(), numbers) {
+        return Err(LineStop::Fault(name));
+    }
+    if !reader.defined.insert(numbers.lhs / 2)? {
+        return Err(LineStop::Fault(AagFault::DefinedTwice));
+    }
     reader
         .circuit
         .add_gate(numbers.lhs, numbers.left, numbers.right)?;
-    reader.defined.insert(variable)?;
     Ok(())
 }
 

@@ -8,8 +8,7 @@
 ghost use Rattle.std.specs.Prelude.{◌≡◌, ℕ, ◌+◌, ◌<◌, ◌^◌, List, Option, length, Some, None, OnOk, IfOk, MatchOption};
 ghost use Rattle.std.specs.Option.{option_copied};
 ghost use Rattle.aiger_text.specs.Grammar.{SpellsCircuit};
-ghost use Rattle.aiger_text.specs.Scan.{scan, finish, checked_file, next_part, at_end, AllGrounded, IsAagReading};
-ghost use Rattle.circuit_plain.specs.Ground.{IsFirstUngrounded};
+ghost use Rattle.aiger_text.specs.Scan.{scan, finish, checked_file, next_part, at_end, IsAagReading};
 ghost use Rattle.aiger_text.specs.Steps.{TakesLine, TakesAnyLine, StopsAt, IsSymbolIfLast};
 ghost use Rattle.aiger_text.specs.CommentLine.{IsCommentLine, file_of};
 ghost use Rattle.aiger_text.specs.ReaderState.{body_of, IsCircuitReader};
@@ -24,8 +23,6 @@ use crate::laws::circuit_or_first_fault;
 use crate::symbol_lines::is_comment_mark;
 use crate::symbol_steps::take_symbol;
 use crate::undefined::first_undefined_line;
-use circuit_plain::laws::orders_ground;
-use circuit_plain::{Circuit, OrderStop};
 use dq_lits::Memory;
 use dq_text::{Lines, is_blank};
 use std::alloc::Global;
@@ -189,7 +186,7 @@ pub fn check_file(reader: &CircuitReader) -> Result<(), AagStop>
     if let Some(line) = first_undefined_line(reader) {
         return Err(refused(line, AagFault::Undefined));
     }
-    if let Some(place) = cyclic_gate(&reader.circuit)? {
+    if let Some(place) = reader.circuit.first_ungrounded()? {
         return Err(refused(gate_line(reader, place), AagFault::Cyclic));
     }
     Ok(())
@@ -218,21 +215,6 @@ pub fn finish_file(
         symbols,
         comment,
     })
-}
-
-// The place of the first gate that no order can hold.
-fn cyclic_gate(circuit: &Circuit) -> Result<Option<usize>, Memory>
-    ensures { IfOk result
-        (λ found. MatchOption found (AllGrounded circuit.now) (IsFirstUngrounded circuit.now)) }
-{
-    match circuit.order() {
-        Ok(_order) => {
-            orders_ground();
-            Ok(None)
-        }
-        Err(OrderStop::Cyclic(place)) => Ok(Some(place)),
-        Err(OrderStop::Memory) => Err(Memory),
-    }
 }
 
 // The line of the gate at a place.

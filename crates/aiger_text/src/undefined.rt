@@ -14,6 +14,20 @@ pub fn first_undefined_line(reader: &CircuitReader) -> Option<u64>
     requires { IsCircuitReader reader.now }
     ensures { result ≡ undefined_line (body_of reader.now) }
 {
+    reader.circuit.every_circuit_is_a_netlist();
+    if reader.circuit.has_least_numbers() {
+        // The usual case: each number in range is that of an input or a gate.
+        return None;
+    }
+    first_undefined_by_look(reader)
+}
+
+// The same, by a look at each literal.
+#[inline(never)]
+fn first_undefined_by_look(reader: &CircuitReader) -> Option<u64>
+    requires { IsCircuitReader reader.now }
+    ensures { result ≡ undefined_line (body_of reader.now) }
+{
     let behind_inputs = reader.header_line + 1 + reader.header.inputs;
     if let Some(output) = undefined_output(reader) {
         return Some(behind_inputs + output as u64);

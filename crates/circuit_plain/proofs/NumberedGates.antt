@@ -1,10 +1,12 @@
 -- Gates that stand in the order of their variables.
 use Rattle.std.proofs.Common.{◌≡◌, ℕ, zero, suc, ◌+◌, ◌<◌, ◌==◌, inl, inr, Bool, true, false, ◌&&◌, ◌||◌, nat_lt, List, [], ◌∷◌, ◌++◌, length, get_or, refl, sym, ap, ◌∙◌, subst, arith, below_more}
-use Rattle.std.specs.Prelude.{slice_index}
+use Rattle.std.specs.Prelude.{Contains, slice_index}
 use Rattle.std.proofs.lemmas.Bool.{and_parts}
 use Rattle.std.proofs.lemmas.Bool.Decides.{nat_tests}
 use Rattle.circuit_plain.specs.declared.circuits.Gate.{Gate}
-use Rattle.circuit_plain.specs.Netlist.{Netlist, IsNetlist, gate_at, literal_variable, variable_of_gate}
+use Rattle.std.proofs.lemmas.List.{get_or_default}
+use Rattle.circuit_plain.specs.Ground.{IsGrounded, constant, input, gate}
+use Rattle.circuit_plain.specs.Netlist.{Netlist, IsNetlist, AreFirstNumbers, gate_at, literal_variable, variable_of_gate}
 use Rattle.circuit_plain.specs.Order.{IsOrder}
 use Rattle.circuit_plain.specs.Steps.{IsDraft}
 use Rattle.circuit_plain.proofs.EvaluationLaws.{gate_read}
@@ -80,3 +82,41 @@ all_stand net places n kept whole so_far =
     let less : p < n = omega (arith, whole, p_in) in
     (so_far.draft.exact _).0 (tests_below _ _ (subst (λ v. v < length net.inputs + 1 + n) (sym (so_far.variables p less))
     (omega (arith, less)))))
+
+-- the variables before a place, and the gates there, are in the least set
+pub record GroundedSoFar (net : Netlist) (n : ℕ) : Type 0 where
+  pub below : (v : ℕ) → v < length net.inputs + 1 + n → IsGrounded net v
+  pub gates : (p : ℕ) → p < n → IsGrounded net (gate_at net p).variable
+
+pub inputs_grounded : (net : Netlist) → AreFirstNumbers net.inputs → GroundedSoFar net 0
+inputs_grounded net first = record { below = leaves; gates = λ p less. absurd (omega (arith, less)) }
+  where
+    leaves : (v : ℕ) → v < length net.inputs + 1 + 0 → IsGrounded net v
+    leaves zero less = constant
+    leaves (suc k) less =
+        let k_in : k < length net.inputs = omega (arith, less) in
+        input (k, k_in, get_or_default net.inputs k (suc k) 0 k_in ∙ first k k_in ∙ omega arith)
+
+-- one gate more; g is the gate read
+pub gate_grounded : (net : Netlist) (gates : List Gate) (g : Gate) (p n : ℕ) → net.gates ≡ gates → p < length net.gates →
+    g ≡ get_or gates p g → n ≡ length net.inputs + 1 + p → GroundedSoFar net p →
+    ((g.variable == n) && (nat_lt (literal_variable g.left) n && nat_lt (literal_variable g.right) n)) ≡ true →
+    GroundedSoFar net (p + 1)
+gate_grounded net gates g p n same p_in read n_is so_far next =
+    let parts = and_parts (g.variable == n) _ next in
+    let sides = and_parts (nat_lt (literal_variable g.left) n) (nat_lt (literal_variable g.right) n) parts.1 in
+    let variable : g.variable ≡ n = same_number g.variable n parts.0 in
+    let stands : g ≡ gate_at net p = gate_read net gates g p same p_in read in
+    let left = is_below (literal_variable g.left) n sides.0 in
+    let right = is_below (literal_variable g.right) n sides.1 in
+    let member : Contains net.gates g = (p, p_in, sym (ap (λ gs. get_or gs p g) (sym same)) ∙ sym read) in
+    let grounded : IsGrounded net g.variable =
+    gate g member (so_far.below (literal_variable g.left) (omega (arith, left, n_is)))
+    (so_far.below (literal_variable g.right) (omega (arith, right, n_is))) in
+    record {
+      below = λ v less.
+          below_more (IsGrounded net) (length net.inputs + 1 + p) so_far.below
+          (subst (IsGrounded net) (variable ∙ n_is) grounded) v (omega (arith, less));
+      gates = below_more (λ q. IsGrounded net (gate_at net q).variable) p so_far.gates
+          (subst (λ h. IsGrounded net h.variable) stands grounded);
+    }

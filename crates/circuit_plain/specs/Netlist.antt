@@ -1,7 +1,7 @@
 -- The combinational netlist of ASCII AIGER: inputs, outputs and and-gates over numbered variables
 -- (A. Biere, "The AIGER And-Inverter Graph (AIG) Format", 2007; A. Biere, K. Heljanko, S. Wieringa,
 -- "AIGER 1.9 And Beyond", FMV report 11/2, 2011).
-use Rattle.std.specs.Prelude.{◌≢◌, ℕ, ◌+◌, ◌*◌, ◌/◌, ◌%◌, ◌^◌, ◌<◌, ◌≤◌, ◌⊎◌, ◌==◌, ◌&&◌, Bool, not, List, map, if◌then◌else◌, All, AllPairs, Contains, slice_index_or}
+use Rattle.std.specs.Prelude.{◌≡◌, ◌≢◌, ℕ, ◌+◌, ◌*◌, ◌/◌, ◌%◌, ◌^◌, ◌<◌, ◌≤◌, ◌⊎◌, ◌==◌, ◌&&◌, Bool, not, List, map, if◌then◌else◌, All, AllPairs, Contains, length, slice_index, slice_index_or}
 use Rattle.circuit_plain.specs.declared.circuits.Gate.{Gate}
 
 -- literal 2v stands for variable v
@@ -80,3 +80,19 @@ pub record IsNetlist (net : Netlist) : Type 0 where
   pub inputs_once : AllPairs (λ x y. x ≢ y) net.inputs
   pub gates_once : AllPairs (λ g h. g.variable ≢ h.variable) net.gates
   pub apart : All (λ x. All (λ g. x ≢ g.variable) net.gates) net.inputs
+
+-- the numbers from 1 on, in order
+abbrev pub AreFirstNumbers : List ℕ → Type 0
+AreFirstNumbers numbers = (k : ℕ) → k < length numbers → slice_index numbers k ≡ k + 1
+
+-- the gates have the variables from this one on, in order
+abbrev pub HaveVariablesFrom : ℕ → List Gate → Type 0
+HaveVariablesFrom first gates =
+    (k : ℕ) (none : Gate) → k < length gates → (slice_index_or gates k none).variable ≡ first + k
+
+-- the variables have the least numbers, as in AIGER's binary format: the inputs those from 1 on, the
+-- gates those behind them, both in order, and there are no others
+pub record HasLeastNumbers (net : Netlist) : Type 0 where
+  pub count : net.max_var ≡ length net.inputs + length net.gates
+  pub inputs : AreFirstNumbers net.inputs
+  pub gates : HaveVariablesFrom (length net.inputs + 1) net.gates

@@ -5,8 +5,8 @@
 //! once and none is missing, so that a value of the whole circuit needs no look at what outputs
 //! reach.
 
-ghost use Rattle.std.specs.Prelude.{◌≡◌, ℕ, true, Option, None, Some, Result, Err, IfOk};
-ghost use Rattle.circuit_plain.specs.Ground.{IsFirstUngrounded};
+ghost use Rattle.std.specs.Prelude.{◌≡◌, ℕ, true, All, Option, None, Some, Result, Err, IfOk, MatchOption};
+ghost use Rattle.circuit_plain.specs.Ground.{IsFirstUngrounded, IsGrounded};
 ghost use Rattle.circuit_plain.specs.Order.{IsOrder};
 ghost use Rattle.number_tables.specs.Numbers.{has_number};
 ghost use Rattle.circuit_plain.specs.Steps.{IsDraft, IsClosed};
@@ -77,7 +77,32 @@ impl Circuit {
         self.order_as_it_stands()
     }
 
+    /// The first gate that no order can hold, if there is one.
+    pub fn first_ungrounded(&self) -> Result<Option<usize>, Memory>
+        ensures { IfOk result (λ found. MatchOption found
+            (All (λ g. IsGrounded self.now g.variable) self.now.gates)
+            (IsFirstUngrounded self.now)) }
+    {
+        if self.stands_as_numbered() {
+            return Ok(None);
+        }
+        self.first_outside_order()
+    }
+
     // The same, however the variables are numbered.
+    fn first_outside_order(&self) -> Result<Option<usize>, Memory>
+        ensures { IfOk result (λ found. MatchOption found
+            (All (λ g. IsGrounded self.now g.variable) self.now.gates)
+            (IsFirstUngrounded self.now)) }
+    {
+        match self.order() {
+            Ok(_order) => Ok(None),
+            Err(OrderStop::Cyclic(place)) => Ok(Some(place)),
+            Err(OrderStop::Memory) => Err(Memory),
+        }
+    }
+
+    // An order, however the variables are numbered.
     fn order_as_it_stands(&self) -> Result<Order, OrderStop>
         ensures ok { IfOk result (IsOrder self.now) }
         ensures cyclic { (place : ℕ) → result ≡ Err (OrderStop.Cyclic place)

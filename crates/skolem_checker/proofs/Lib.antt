@@ -9,6 +9,7 @@ pub mod BenchLaws
 pub mod RenamedNetlists
 pub mod LeastNumbers
 pub mod CopySteps
+pub mod LeastCopies
 pub mod OriginalLaws
 pub mod EndsLaws
 pub mod ConesLaws

@@ -7,7 +7,7 @@ use Rattle.skolem_checker.specs.Checks.{Candidate}
 use Rattle.skolem_checker.specs.Mapping.{Mapping}
 use Rattle.skolem_checker.specs.MappingReading.{mapping_in}
 use Rattle.skolem_checker.specs.Reads.{HasWords}
-use Rattle.skolem_checker.specs.Renaming.{renumbered}
+use Rattle.skolem_checker.specs.Renaming.{copy_or, renumbered}
 use Rattle.skolem_checker.specs.SkolemCircuit.{IsComplete}
 use Rattle.skolem_checker.specs.Tables.{IsMapping, AreTables, universal_places}
 use Rattle.skolem_checker.specs.declared.reads.ReadWords.{ReadWords}
@@ -37,6 +37,6 @@ candidate_in b = record {
 
 abbrev pub is_ready : Inside → Type 0
 is_ready b =
-    IsEvaluable b.formula.now b.circuit.now b.copy (mapping_in b.mapped) b.order b.literals.items
+    IsEvaluable b.formula.now b.circuit.now (copy_or b.copy b.circuit.now) (mapping_in b.mapped) b.order b.literals.items
     b.places.items b.universal_places.items
     b.words b.values

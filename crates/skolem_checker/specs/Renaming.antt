@@ -1,7 +1,7 @@
 -- Words of private contracts: a netlist with other numbers for its variables. Without gaps they are
 -- numbered as in the binary format of AIGER (A. Biere, "The AIGER And-Inverter Graph (AIG) Format",
 -- 2007): the constant, then the inputs, then the gates, here in the order of the file.
-use Rattle.std.specs.Prelude.{ℕ, ◌+◌, ◌*◌, ◌%◌, ◌==◌, List, ◌∷◌, ◌++◌, length, map, take}
+use Rattle.std.specs.Prelude.{ℕ, ◌+◌, ◌*◌, ◌%◌, ◌==◌, List, ◌∷◌, ◌++◌, length, map, take, Option, Some, None}
 use Rattle.std.specs.List.{position_or_len}
 use Rattle.circuit_plain.specs.declared.circuits.Gate.{Gate}
 use Rattle.circuit_plain.specs.Netlist.{Netlist, literal_variable, gate_variables}
@@ -50,3 +50,8 @@ renumbered_first net inputs gates outputs =
 -- the netlist with the least numbers
 abbrev pub renumbered : Netlist → Netlist
 renumbered net = renamed (dense_number net) (length net.inputs + length net.gates) net
+
+-- the copy of a netlist, or where there is none itself
+abbrev pub copy_or : Option Netlist → Netlist → Netlist
+copy_or (Some copy) _ = copy
+copy_or None net = net

@@ -1,7 +1,7 @@
 //! A circuit that is tested against a formula.
 //!
 //! Rows are tried on a copy of the circuit with the least numbers, the inputs from 1 on and then
-//! the gates as they stand: a header may state the variable 10^9 over three lines. Contracts speak
+//! the gates as they stand, unless it has these: a header may state the variable 10^9 over three lines. Contracts speak
 //! of the circuit itself. With more than 20 universals no row is tried, and room is taken for the
 //! constant alone.
 
@@ -15,7 +15,7 @@ ghost use Rattle.skolem_checker.specs.SkolemCircuit.{IsComplete, ReadsUniversal}
 
 use crate::mapping::{BenchStop, Mapped, read_mapping};
 use crate::reads::{ReadWords, undeclared_read};
-use crate::renumbering::renumbered;
+use crate::renumbering::{copy_or, renumbered};
 use crate::rows::first_bad_row;
 use crate::tables::{literal_table, place_table, universal_places};
 use crate::tested::Tested;
@@ -34,10 +34,10 @@ const MAX_UNIVERSALS: usize = 20;
 pub struct Bench<'a> {
     formula: &'a Formula,
     // The circuit that is tested. Its largest variable may be far beyond its lines, so that the
-    // tests run on a copy with the least numbers: order, literals and rows by variable are the
-    // copy's.
+    // tests run on a copy with the least numbers, unless it has them: order, literals and rows by
+    // variable are the copy's.
     circuit: &'a Circuit,
-    copy: Circuit,
+    copy: Option<Circuit>,
     order: Order,
     mapped: Mapped,
     // By variable of the formula, the literal of a universal's input or of an existential's output.
@@ -103,12 +103,13 @@ impl<'a> Bench<'a> {
         let circuit = &a.circuit;
         let mapped = read_mapping(alloc, f, a)?;
         let copy = renumbered(alloc, circuit)?;
-        let order = ordered(&copy)?;
-        let literals = literal_table(alloc, f, &copy, &mapped)?;
-        let places = place_table(alloc, f, &copy, &mapped)?;
+        let tested = copy_or(&copy, circuit);
+        let order = ordered(tested)?;
+        let literals = literal_table(alloc, f, tested, &mapped)?;
+        let places = place_table(alloc, f, tested, &mapped)?;
         let universal_places = universal_places(alloc, f, &mapped.inputs)?;
-        let words = ReadWords::new(alloc, f, &copy)?;
-        let values = row_block(alloc, f, &copy)?;
+        let words = ReadWords::new(alloc, f, tested)?;
+        let values = row_block(alloc, f, tested)?;
         Ok(Bench {
             formula: f,
             circuit,
@@ -162,7 +163,7 @@ impl<'a> Bench<'a> {
     {
         let tested = Tested {
             formula: self.formula,
-            circuit: &self.copy,
+            circuit: copy_or(&self.copy, self.circuit),
             order: &self.order,
             literals: &self.literals,
             by_input: &self.mapped.inputs,
@@ -180,7 +181,7 @@ impl<'a> Bench<'a> {
     {
         let tested = Tested {
             formula: self.formula,
-            circuit: &self.copy,
+            circuit: copy_or(&self.copy, self.circuit),
             order: &self.order,
             literals: &self.literals,
             by_input: &self.mapped.inputs,

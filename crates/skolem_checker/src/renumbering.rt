@@ -3,7 +3,7 @@
 
 ghost use Rattle.std.specs.Prelude.{◌≡◌, ◌*◌, ◌+◌, ◌<◌, ◌^◌, length, take, Contains, IfOk, OnOk};
 ghost use Rattle.circuit_plain.specs.Netlist.{IsNetlist, literal_variable};
-ghost use Rattle.skolem_checker.specs.Renaming.{known_variables, number_in, renamed_literal, renumbered, renumbered_first};
+ghost use Rattle.skolem_checker.specs.Renaming.{copy_or, known_variables, number_in, renamed_literal, renumbered, renumbered_first};
 ghost use Rattle.skolem_checker.specs.SkolemCircuit.{IsComplete};
 
 use circuit_plain::Circuit;
@@ -114,11 +114,35 @@ fn copy_outputs(circuit: &Circuit, known: &NumberSet, copy: &mut Circuit) -> Res
     Ok(())
 }
 
-/// The circuit with its inputs numbered from 1 on and its gates behind them, both in their order.
-pub(crate) fn renumbered(alloc: Global, circuit: &Circuit) -> Result<Circuit, Memory>
+/// The circuit with its inputs numbered from 1 on and its gates behind them, both in their order; none
+/// where it is so numbered already.
+pub(crate) fn renumbered(alloc: Global, circuit: &Circuit) -> Result<Option<Circuit>, Memory>
     requires { IsComplete circuit.now }
     ensures kept { IsNetlist circuit.now }
-    ensures copy { IfOk result (λ copy. copy ≡ renumbered circuit.now) }
+    ensures copy { IfOk result (λ copy. copy_or copy circuit.now ≡ renumbered circuit.now) }
+{
+    circuit.every_circuit_is_a_netlist();
+    if circuit.has_least_numbers() {
+        return Ok(None);
+    }
+    Ok(Some(renumbered_by_place(alloc, circuit)?))
+}
+
+/// The copy of a circuit, or where there is none the circuit itself.
+pub(crate) fn copy_or<'c>(copy: &'c Option<Circuit>, circuit: &'c Circuit) -> &'c Circuit
+    ensures { result.now ≡ copy_or copy.now circuit.now }
+{
+    match copy {
+        Some(copy) => copy,
+        None => circuit,
+    }
+}
+
+// The same, however the variables are numbered.
+#[inline(never)]
+fn renumbered_by_place(alloc: Global, circuit: &Circuit) -> Result<Circuit, Memory>
+    requires { IsComplete circuit.now }
+    ensures { IfOk result (λ copy. copy ≡ renumbered circuit.now) }
 {
     circuit.every_circuit_is_a_netlist();
     let known = known_variables(alloc, circuit)?;
