@@ -1,15 +1,13 @@
 //! The natural numbers of a line.
 
-ghost use Rattle.std.specs.Prelude.{◌≡◌, ◌∷◌, pos, map, Ok, Some, None, IfOk, IfSome, if◌then◌else◌};
+ghost use Rattle.std.specs.Prelude.{◌≡◌, Ok, Some, None, IfOk, IfSome, if◌then◌else◌};
 ghost use Rattle.dq_text.specs.Line.{line_tokens};
-ghost use Rattle.dq_text.specs.Number.{number_of};
-ghost use Rattle.dq_text.specs.declared.numbers.Number.TheVariants.{Int};
 ghost use Rattle.aiger_text.specs.Lines.{numbers_of, one_of, three_of};
 ghost use Rattle.aiger_text.specs.LineStop.{IsLineOf};
 
 use crate::faults::{AagFault, LineStop};
 use dq_lits::Memory;
-use dq_text::{LineTokens, is_blank, natural, short_number};
+use dq_text::{LineTokens, is_blank, natural, short_natural};
 
 /// Puts the numbers that the tokens are in place of those in the buffer, and says whether all
 /// tokens are natural numbers.
@@ -41,7 +39,7 @@ pub fn one_number(line: &[u8], numbers: &mut Vec<u64>) -> Result<u64, LineStop>
 fn plain_number(line: &[u8]) -> Option<u64>
     ensures { IfSome result (λ n. one_of (numbers_of (line_tokens line.now)) ≡ Ok n) }
 {
-    let (n, behind) = plain_natural(line)?;
+    let (n, behind) = short_natural(line)?;
     if is_blank(behind) { Some(n) } else { None }
 }
 
@@ -80,26 +78,13 @@ pub fn three_numbers(line: &[u8], numbers: &mut Vec<u64>) -> Result<GateNumbers,
 fn plain_numbers(line: &[u8]) -> Option<GateNumbers>
     ensures { IfSome result (λ plain. three_of (numbers_of (line_tokens line.now)) ≡ Ok plain) }
 {
-    let (lhs, line) = plain_natural(line)?;
-    let (left, line) = plain_natural(line)?;
-    let (right, behind) = plain_natural(line)?;
+    let (lhs, line) = short_natural(line)?;
+    let (left, line) = short_natural(line)?;
+    let (right, behind) = short_natural(line)?;
     if is_blank(behind) {
         Some(GateNumbers { lhs, left, right })
     } else {
         None
-    }
-}
-
-// The natural number that a line begins with, and what stands behind it.
-#[inline(always)]
-fn plain_natural(line: &[u8]) -> Option<(u64, &[u8])>
-    ensures { IfSome result
-        (λ found. map number_of (line_tokens line.now)
-        ≡ Int (pos found.0) ∷ map number_of (line_tokens found.1.now)) }
-{
-    match short_number(line) {
-        Some((n, behind)) if n >= 0 => Some((n as u64, behind)),
-        _ => None,
     }
 }
 

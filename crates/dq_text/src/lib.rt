@@ -9,7 +9,7 @@ pub use numbers::{
     Number, TOO_BIG, has_minus, natural, push_all_spaced, push_last, push_natural, push_number,
     push_spaced, read_number,
 };
-pub use short_numbers::short_number;
+pub use short_numbers::{short_natural, short_number};
 pub use summaries::{Digits, Head, TokenSummary, grown, is_begun, no_bytes, summary_number};
 pub use token_pieces::{TakesTokens, TokenPieces};
 pub use tokens::{Token, Tokens};

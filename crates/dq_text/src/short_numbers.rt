@@ -28,6 +28,17 @@ pub fn short_number(bytes: &[u8]) -> Option<(i64, &[u8])>
     }
 }
 
+/// The natural number that is the first token, in the same way.
+#[inline(always)]
+pub fn short_natural(bytes: &[u8]) -> Option<(u64, &[u8])>
+    ensures { IfSome result
+        (λ found. map number_of (line_tokens bytes.now)
+        ≡ Int (pos found.0) ∷ map number_of (line_tokens found.1.now)) }
+{
+    let (value, behind) = first_natural(bytes)?;
+    Some((value, behind))
+}
+
 /// The number that these bytes begin with and that ends in them, and the bytes from the separator on
 /// that ends it. There may be one where it finds none: one of 19 digits or more.
 #[inline(always)]
@@ -65,7 +76,7 @@ fn behind_minus(digits: &[u8]) -> Option<(i64, &[u8])>
         (λ found. map number_of (line_tokens (45 ∷ digits.now))
         ≡ Int found.0 ∷ map number_of (line_tokens found.1.now)) }
 {
-    let (value, behind) = short_natural(digits)?;
+    let (value, behind) = first_natural(digits)?;
     if value == 0 {
         return None;
     }
@@ -78,7 +89,7 @@ fn without_minus(bytes: &[u8]) -> Option<(i64, &[u8])>
         (λ found. map number_of (line_tokens bytes.now)
         ≡ Int found.0 ∷ map number_of (line_tokens found.1.now)) }
 {
-    let (value, behind) = short_natural(bytes)?;
+    let (value, behind) = first_natural(bytes)?;
     Some((as_signed(value), behind))
 }
 
@@ -117,7 +128,7 @@ fn as_signed(value: u64) -> i64
 
 // The value of the digits that are the first token, at most 18, and the bytes behind them.
 #[inline(always)]
-fn short_natural(bytes: &[u8]) -> Option<(u64, &[u8])>
+fn first_natural(bytes: &[u8]) -> Option<(u64, &[u8])>
     ensures { IfSome result (λ found. BeginsWithNatural bytes.now found.0 found.1.now) }
 {
     let (value, count) = leading_value(first_bytes(bytes));

@@ -33,6 +33,7 @@ use headline_laws::laws::{
     definitions_are_on_the_page, formulas_are_on_the_page, skolem_circuits_are_on_the_page,
 };
 use std::alloc::{AllocError, Global};
+use std::mem;
 
 /// The most bytes of a certificate.
 const MAX_CERTIFICATE: u64 = 1 << 40;
@@ -112,7 +113,12 @@ fn report_files<F: Files>(alloc: Global, names: FileNames, files: &mut F) -> Res
     ensures held { F.held files.new ≡ F.held files.old }
 {
     match read_formula(alloc, files, names.formula) {
-        Ok(formula) => report_certificate(alloc, &formula, names, files),
+        Ok(formula) => {
+            let reported = report_certificate(alloc, &formula, names, files);
+            // The run ends here: to give back each of the formula's lists would only take time.
+            mem::forget(formula);
+            reported
+        }
         Err(FormulaStop::Memory) => Err(Memory),
         Err(FormulaStop::Said(said)) => said.output(alloc),
     }

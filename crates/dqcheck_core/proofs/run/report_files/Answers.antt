@@ -7,9 +7,9 @@ pub returns-in-Ok-clause-reported : goal.returns-in-Ok-clause-reported
 returns-in-Ok-clause-reported g c =
     let read = c.in-Ok.ensures in
     reported_behind (state_of g.F.Files c.args.files.now) (state_of g.F.Files c.read_formula.new.files)
-    (state_of g.F.Files c.report_certificate.new.files)
+    (state_of g.F.Files c.report_certificate-reported.new.files)
     (record { formula = c.args.names.formula.now; certificate = c.args.names.certificate.now }) c.in-Ok.formula
-    c.report_certificate.result
+    c.report_certificate-reported.result
     (record {
       held = read.held;
       reliable = read.still_reliable;
@@ -18,7 +18,7 @@ returns-in-Ok-clause-reported g c =
       unfaulted = read.unfaulted (λ none. none);
     })
     read.read.0
-    c.report_certificate.ensures.reported
+    c.report_certificate-reported.ensures.reported
 
 pub returns-in-Err-Said-clause-reported : goal.returns-in-Err-Said-clause-reported
 returns-in-Err-Said-clause-reported g c =
