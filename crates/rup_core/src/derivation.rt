@@ -15,7 +15,7 @@ use crate::bases::Base;
 use crate::marks::Marks;
 use crate::progress::{Progress, propagate};
 use crate::statuses::status_of;
-use crate::trails::Trail;
+use crate::trails::{Trail, place_of};
 use dq_lits::{Lit, Memory, TruthValue};
 
 /// Whether a line is derived.
@@ -101,7 +101,7 @@ pub(crate) fn assume_false(trail: &mut Trail, lits: &[Lit]) -> Result<bool, Memo
         match trail.value(*l) {
             TruthValue::False => {}
             TruthValue::True => return Ok(false),
-            TruthValue::Unassigned => trail.assign(l.not())?,
+            TruthValue::Unassigned => trail.assign(place_of(*l), l.not())?,
         }
     }
     Ok(true)

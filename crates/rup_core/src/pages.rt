@@ -179,11 +179,16 @@ impl Page {
         self.dead > self.literals.len() / 2 && self.dead >= self.spans.len()
     }
 
-    // Lays the clauses end to end anew. Where that takes more memory than there is, they stay.
+    // Lays the clauses end to end anew. Where that takes more memory than there is, they stay. Where
+    // all are gone, the memory stays for those that are to come.
     fn pack(&mut self)
         ensures { AreSameClauses (clause_at self.old) (clause_at self.new) }
     {
-        if let Ok(page) = self.packed() {
+        if self.live == 0 {
+            self.spans.clear();
+            self.literals.clear();
+            self.dead = 0;
+        } else if let Ok(page) = self.packed() {
             *self = page;
         }
     }

@@ -5,7 +5,7 @@ ghost use Rattle.rup_core.specs.Extension.{seen, UnitIsFree, UnitStandsWithin};
 ghost use Rattle.rup_core.specs.HintStep.{IsStep};
 
 use crate::statuses::ClauseStatus;
-use crate::trails::Trail;
+use crate::trails::{Trail, place_of};
 use dq_lits::Memory;
 
 /// How the hints of a line stand so far.
@@ -32,7 +32,7 @@ pub(crate) fn propagate(trail: &mut Trail, status: ClauseStatus) -> Result<Progr
 {
     match status {
         ClauseStatus::Unit(l) => {
-            trail.assign(l)?;
+            trail.assign(place_of(l), l)?;
             Ok(Progress::Going)
         }
         ClauseStatus::Falsified => Ok(Progress::Refuted),

@@ -21,9 +21,10 @@ pub(crate) const PAGE: usize = 256;
 /// Ids lie in pages, and a page keeps the literals of its clauses end to end. It lays them anew
 /// where more than half of its literals belong to clauses that are gone, and these are as many as
 /// its ids, so that the work is paid by what is gone. With its last clause it gives all its memory
-/// back, unless lines are still to come there. So memory follows the literals of the clauses that
-/// there are, three words for each id of their pages, one of them for literals that are gone, and
-/// two bits for each id of the other pages. A list that has just grown takes up to twice its part.
+/// back, unless lines are still to come there, for which it keeps it. So memory follows the literals
+/// of the clauses that there are, three words for each id of their pages, one of them for literals
+/// that are gone, and two bits for each id of the other pages. A list that has just grown takes up
+/// to twice its part.
 #[derive(Drop)]
 pub struct Store {
     pages: Vec<Page>,

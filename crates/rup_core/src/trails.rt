@@ -89,32 +89,32 @@ impl Trail {
         far_value(self.far.get(&l.var()))
     }
 
-    /// Makes an unassigned literal true. It takes no memory for the variables that room was taken
-    /// for.
+    /// Makes an unassigned literal true, whose variable has a place in the table of values or behind
+    /// it. It takes no memory for the variables that room was taken for.
     #[inline(always)]
-    pub(crate) fn assign(&mut self, l: Lit) -> Result<(), Memory>
-        requires { literal_value self.old.trues l ≡ TruthValue.Unassigned }
+    pub(crate) fn assign(&mut self, place: usize, l: Lit) -> Result<(), Memory>
+        requires place { place + 1 ≡ variable_of l }
+        requires unassigned { literal_value self.old.trues l ≡ TruthValue.Unassigned }
         ensures ok { OnOk result (self.new ≡ record self.old { trues = l ∷ self.old.trues }) }
         ensures err { OnErr result (self.new ≡ self.old) }
         ensures near { variable_of l ≤ self.old.variables → IsOk result }
     {
-        if place_of(l) < self.near.len() {
-            self.assign_near(l);
+        if place < self.near.len() {
+            self.assign_near(place, l);
             return Ok(());
         }
         self.assign_far(l)
     }
 
     #[inline(always)]
-    fn assign_near(&mut self, l: Lit)
+    fn assign_near(&mut self, place: usize, l: Lit)
+        requires place { place + 1 ≡ variable_of l }
         requires in_range { variable_of l ≤ self.old.variables }
         requires unassigned { literal_value self.old.trues l ≡ TruthValue.Unassigned }
         ensures { self.new ≡ record self.old { trues = l ∷ self.old.trues } }
     {
-        self.near[place_of(l)] = truth_value(!l.is_neg());
-        if self.literals.push(l).is_err() {
-            unreachable!();
-        }
+        self.near[place] = truth_value(!l.is_neg());
+        self.literals.push_reserved(l);
     }
 
     // Few variables are so far, and what calls it is to stay small.
@@ -169,8 +169,8 @@ fn far_value(is_true: Option<&bool>) -> TruthValue
     }
 }
 
-// The place of a literal's variable in the table of values.
-fn place_of(l: Lit) -> usize
+/// The place of a literal's variable in the table of values.
+pub(crate) fn place_of(l: Lit) -> usize
     ensures { result + 1 ≡ variable_of l }
 {
     l.var() as usize - 1

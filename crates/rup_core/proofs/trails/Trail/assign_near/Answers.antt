@@ -1,6 +1,4 @@
 use Rattle.std.proofs.Common.{◌≡◌, ◌+◌, ◌<◌, ◌∷◌, [], ◌++◌, suc, not, cond, length, reverse, ◌∙◌, ap, arith, length-append}
-use Rattle.std.specs.Result.{is_ok}
-use Rattle.std.proofs.lemmas.Bool.{both_ways}
 use Rattle.std.proofs.lemmas.List.{length-set}
 use Rattle.dq_lits.specs.Literal.{variable_of}
 use Rattle.dq_lits.specs.Truth.{literal_value}
@@ -9,11 +7,11 @@ use Rattle.rup_core.proofs.AssignedLiterals.{assign_room, assign_counted, assign
 use Rattle.dq_lits.proofs.AssignedLiterals.{value_where_true}
 use Rattle.rup_core.proofs.trails.Trail.assign_near.Goals as goal
 
-pub unreachable-requires : goal.unreachable-requires
-unreachable-requires c =
+pub push_reserved-requires : goal.push_reserved-requires
+push_reserved-requires c =
     let inside = c.self.inside in
-    let place = c.place_of.result in
-    let at : variable_of c.args.l ≡ suc place = omega (arith, c.place_of.ensures) in
+    let place = c.args.place in
+    let at : variable_of c.args.l ≡ suc place = omega (arith, c.requires.place) in
     let in_range : place < length inside.near.items = omega (
       arith,
       ap (λ a. a.variables) c.self.view_is,
@@ -24,15 +22,14 @@ unreachable-requires c =
     ap (λ a. literal_value a.trues c.args.l) c.self.view_is ∙ c.requires.unassigned in
     let room = assign_room inside.near.items inside.literals.items c.args.l place _ c.self.invariant.told
     c.self.invariant.room at in_range free in
-    let pushed = c.push.ensures.succeeds (omega (arith, room, inside.literals.ok.0)) in
-    both_ways (is_ok c.push.result) (c.is_err.ensures.negation ∙ ap not c.if-is_err.true) pushed
+    omega (arith, room, inside.literals.ok.0)
 
 pub invariant_of-self : goal.invariant_of-self
 invariant_of-self c =
     let inside = c.self.inside in
-    let place = c.place_of.result in
-    let more = c.push.new.self.items in
-    let at : variable_of c.args.l ≡ suc place = omega (arith, c.place_of.ensures) in
+    let place = c.args.place in
+    let more = c.push_reserved.new.self.items in
+    let at : variable_of c.args.l ≡ suc place = omega (arith, c.requires.place) in
     let in_range : place < length inside.near.items = omega (
       arith,
       ap (λ a. a.variables) c.self.view_is,
@@ -43,9 +40,7 @@ invariant_of-self c =
     ap (λ a. literal_value a.trues c.args.l) c.self.view_is ∙ c.requires.unassigned in
     let value : c.truth_value.result ≡ value_where_true c.args.l =
     c.truth_value.ensures ∙ ap (λ b. cond (not b) True False) c.is_neg.ensures in
-    let longer : more ≡ inside.literals.items ++ c.args.l ∷ [] =
-    c.push.ensures.items ∙ ap (λ b. cond b (inside.literals.items ++ c.args.l ∷ []) inside.literals.items)
-    (c.is_err.ensures.negation ∙ ap not c.if-is_err.false) in
+    let longer : more ≡ inside.literals.items ++ c.args.l ∷ [] = c.push_reserved.ensures.items in
     let same = length-set inside.near.items place c.truth_value.result in
     let counted = assign_counted inside.near.items inside.literals.items c.args.l place c.truth_value.result
     c.self.invariant.told at in_range free value in
@@ -56,6 +51,6 @@ invariant_of-self c =
           c.self.invariant.told at in_range free value longer;
       far_told = near_keeps_far _ _ inside.far inside.literals.items more c.args.l c.self.invariant.far_told
           (omega (arith, at, in_range)) same longer;
-      room = omega (arith, same, counted, long, c.self.invariant.room, c.push.ensures.capacity);
-      whole = omega (arith, same, c.self.invariant.whole, c.push.ensures.capacity);
+      room = omega (arith, same, counted, long, c.self.invariant.room, c.push_reserved.ensures.capacity);
+      whole = omega (arith, same, c.self.invariant.whole, c.push_reserved.ensures.capacity);
     }
