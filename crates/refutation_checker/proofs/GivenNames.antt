@@ -1,12 +1,14 @@
 -- Names that are given.
 use Rattle.std.proofs.Common.{◌≡◌, ℕ, zero, suc, ◌+◌, ◌*◌, ◌%◌, ◌<◌, ◌≤◌, ◌==◌, ◌^◌, Bool, true, false, cond, List, [], set, length, get_or, replicate, None, Some, refl, sym, ◌∙◌, ap, subst, arith}
+use Rattle.std.specs.List.{All}
 use Rattle.std.proofs.lemmas.List.{length-replicate, get_or_default}
 use Rattle.refutation_checker.specs.Bindings.{set_at}
 use Rattle.refutation_checker.specs.KnownBases.{AreKept, IsKeptOrNew, block_number}
 use Rattle.refutation_checker.specs.Namings.{Frame, Names, sees_at, tree_at, base_of, IsNaming, Extends}
-use Rattle.refutation_checker.specs.PairNames.{names_in, IsFrame, AreNames}
+use Rattle.refutation_checker.specs.PairNames.{names_in, IsFrame, IsLast, AreNames}
 use Rattle.refutation_checker.specs.RowTrees.{sees_of, found, IsTree, AreNumbered, number_or}
 use Rattle.refutation_checker.specs.Rows.{row_of}
+use Rattle.refutation_checker.specs.declared.pair_names.LastBase.{LastBase}
 use Rattle.refutation_checker.specs.declared.pair_names.PairNames.{PairNames}
 use Rattle.refutation_checker.specs.declared.row_trees.Node.{Node}
 use Rattle.refutation_checker.specs.declared.bindings.DependencySet.{DependencySet}
@@ -37,6 +39,12 @@ no_names x n trees_is next_is = record {
     nothing : (b : ℕ) → None ≡ Some b → ⊥
     nothing b h = cc
 
+-- names stay
+last_later : (x : Frame) (n m : Names) (old new : LastBase) →
+    All (λ row. length row ≡ length x.formula.universals) x.rows → Extends x n m → new ≡ old → IsLast x n old →
+    IsLast x m new
+last_later x n m old new whole extends is before = search arith
+
 -- what a tree's number gives
 pub name_given : (x : Frame) (old new : PairNames) (c k base : ℕ) (nodes : List Node) → IsFrame x → AreNames x old →
     c < length x.sets → k < length x.rows
@@ -45,10 +53,10 @@ pub name_given : (x : Frame) (old new : PairNames) (c k base : ℕ) (nodes : Lis
     → base ≡ number_or (base_of x (names_in old) c (row_of x.rows k)) old.next
     → new.trees.items ≡ set old.trees.items c nodes
     → new.next ≡ cond (base == old.next) (old.next + (set_at x.sets c).size) old.next
-    → new.known ≡ old.known → old.next ≤ 2 ^ 60
+    → new.known ≡ old.known → new.last ≡ old.last → old.next ≤ 2 ^ 60
     → AreNames x new × Extends x (names_in old) (names_in new) ×
     (base_of x (names_in new) c (row_of x.rows k) ≡ Some base)
-name_given x old new c k base nodes frame names c_in k_in tree numbered value trees_is next_is known_is small =
+name_given x old new c k base nodes frame names c_in k_in tree numbered value trees_is next_is known_is last_is small =
     let n = names_in old in
     let growth : IsGrowth x n c k base new.next nodes =
     record {
@@ -68,6 +76,7 @@ name_given x old new c k base nodes frame names c_in k_in tree numbered value tr
         naming = subst (IsNaming x) (sym now_is) (grown_naming x n c k base new.next nodes growth);
         kept = kept_later x n (names_in new) new.known.numbers new.known.bases.items frame.whole extends
             (subst (λ known. AreKept x n known.numbers known.bases.items) (sym known_is) names.kept);
+        last = last_later x n (names_in new) old.last new.last frame.whole extends last_is names.last;
         small = few (base == old.next) next_is;
       },
       extends,
@@ -88,11 +97,11 @@ pub name_read : (x : Frame) (old new : PairNames) (c k base : ℕ) (nodes t : Li
     → base ≡ number_or (found x.formula x.rows (sees_of x.formula s.leader) t (row_of x.rows k)) old.next
     → new.trees.items ≡ set old.trees.items c nodes
     → new.next ≡ cond (base == old.next) (old.next + s.size) old.next
-    → new.known ≡ old.known → old.next ≤ 2 ^ 60
+    → new.known ≡ old.known → new.last ≡ old.last → old.next ≤ 2 ^ 60
     → AreNames x new × Extends x (names_in old) (names_in new) ×
     (base_of x (names_in new) c (row_of x.rows k) ≡ Some base)
 name_read x old new c k base nodes t s frame names c_in k_in s_read t_read tree numbered value trees_is next_is
-    known_is small =
+    known_is last_is small =
     let s_is : s ≡ set_at x.sets c = s_read ∙ get_or_default x.sets c s (record { leader = 0; size = 0 }) c_in in
     let t_is : t ≡ tree_at (names_in old) c =
     t_read ∙ get_or_default old.trees.items c t [] (let many = names.naming.many in omega (arith, many, c_in)) in
@@ -106,7 +115,7 @@ name_read x old new c k base nodes t s frame names c_in k_in s_read t_read tree 
     ∙ ap (λ u. number_or (found x.formula x.rows (sees_at x c) u (row_of x.rows k)) old.next) t_is)
     trees_is
     (next_is ∙ ap (λ (z : DependencySet). cond (base == old.next) (old.next + z.size) old.next) s_is)
-    known_is small
+    known_is last_is small
 
 pub tree_read : (x : Frame) (n : PairNames) (c : ℕ) (t : List Node) (s : DependencySet) → AreNames x n →
     c < length x.sets → s ≡ get_or x.sets c s

@@ -1,12 +1,14 @@
 -- Words of private contracts: a formula and some rows as they are held, and names of pairs.
-use Rattle.std.specs.Prelude.{◌≡◌, ◌≤◌, ◌^◌, length}
+use Rattle.std.specs.Prelude.{◌≡◌, ◌<◌, ◌≤◌, ◌^◌, Some, length}
 use Rattle.std.specs.List.{All}
 use Rattle.dq_formula.specs.Prefix.{IsLawful}
 use Rattle.cert_text.specs.Header.{max_count}
 use Rattle.refutation_checker.specs.Bindings.{AreAllBound}
 use Rattle.refutation_checker.specs.KnownBases.{AreKept}
-use Rattle.refutation_checker.specs.Namings.{Frame, Names, IsNaming}
+use Rattle.refutation_checker.specs.Namings.{Frame, Names, base_of, IsNaming}
+use Rattle.refutation_checker.specs.Rows.{row_of}
 use Rattle.refutation_checker.specs.declared.pair_names.Expansion.{Expansion}
+use Rattle.refutation_checker.specs.declared.pair_names.LastBase.{LastBase}
 use Rattle.refutation_checker.specs.declared.pair_names.PairNames.{PairNames}
 
 abbrev pub frame : Expansion → Frame
@@ -27,7 +29,13 @@ pub record IsFrame (x : Frame) : Type 0 where
 abbrev pub names_in : PairNames → Names
 names_in n = record { trees = n.trees.items; next = n.next }
 
+-- what was asked for last is right
+abbrev pub IsLast : Frame → Names → LastBase → Type 0
+IsLast x n last = last.set < length x.sets
+    → (last.row < length x.rows) × (base_of x n last.set (row_of x.rows last.row) ≡ Some last.base)
+
 pub record AreNames (x : Frame) (n : PairNames) : Type 0 where
   pub naming : IsNaming x (names_in n)
   pub kept : AreKept x (names_in n) n.known.numbers n.known.bases.items
+  pub last : IsLast x (names_in n) n.last
   pub small : n.next ≤ 2 ^ 61

@@ -37,7 +37,16 @@ pub(crate) struct PairNames {
     // By dependency set, the name of its first existential's pair for each row.
     trees: Vec<RowTree>,
     known: KnownBases,
+    last: LastBase,
     next: u64,
+}
+
+/// What was asked for last: the base of a set under a row. None was where there is no such set.
+#[derive(Clone, Copy)]
+pub(crate) struct LastBase {
+    set: usize,
+    row: usize,
+    base: u64,
 }
 
 impl PairNames {
@@ -49,9 +58,15 @@ impl PairNames {
         let count = e.bindings.sets.len();
         let trees = no_trees(alloc, count)?;
         let known = KnownBases::new(alloc);
+        let last = LastBase {
+            set: count,
+            row: 0,
+            base: 0,
+        };
         Ok(PairNames {
             trees,
             known,
+            last,
             next: 1,
         })
     }
@@ -62,9 +77,29 @@ impl PairNames {
     }
 
     /// The name of the pair of a set's first existential and the row at `k`; others with the set
-    /// follow. Where it has none it gets one.
+    /// follow. Where it has none it gets one. A line's literals often have one set and one row.
     #[inline(always)]
     pub(crate) fn base(&mut self, e: &Expansion, set: usize, k: usize) -> Result<u64, Memory>
+        requires frame { IsFrame (frame e.now) }
+        requires names { AreNames (frame e.now) self.old }
+        requires set { set < length (frame e.now).sets }
+        requires row { k < length (frame e.now).rows }
+        ensures names { AreNames (frame e.now) self.new }
+        ensures extends { Extends (frame e.now) (names_in self.old) (names_in self.new) }
+        ensures base { IfOk result (λ base. base_of (frame e.now) (names_in self.new) set
+            (row_of (frame e.now).rows k) ≡ Some base) }
+    {
+        if self.last.set == set && self.last.row == k {
+            return Ok(self.last.base);
+        }
+        let base = self.look_up(e, set, k)?;
+        self.last = LastBase { set, row: k, base };
+        Ok(base)
+    }
+
+    // The same, by the names that are kept.
+    #[inline(always)]
+    fn look_up(&mut self, e: &Expansion, set: usize, k: usize) -> Result<u64, Memory>
         requires frame { IsFrame (frame e.now) }
         requires names { AreNames (frame e.now) self.old }
         requires set { set < length (frame e.now).sets }

@@ -26,7 +26,7 @@ returns-then-base-self c =
     c.requires.set c.requires.row c.index-named.ensures c.index_mut.ensures.value c.in_ok-base.ensures.tree
     c.in_ok-base.ensures.numbered c.in_ok-base.ensures.value refl
     (sym (ap (λ b. cond b (old.next + c.index-named.result.now.size) old.next)
-    (eq-eqb c.in_ok-base.base old.next c.if-base-self.true))) refl c.if-self-gt-LAST_NAME.false in
+    (eq-eqb c.in_ok-base.base old.next c.if-base-self.true))) refl refl c.if-self-gt-LAST_NAME.false in
     record { names = all.0; extends = all.1; base = all.2 }
 
 pub returns-else-base-self : goal.returns-else-base-self
@@ -38,5 +38,5 @@ returns-else-base-self c =
     c.requires.set c.requires.row c.index-named.ensures c.index_mut.ensures.value c.in_ok-base.ensures.tree
     c.in_ok-base.ensures.numbered c.in_ok-base.ensures.value refl
     (sym (ap (λ b. cond b (old.next + c.index-named.result.now.size) old.next)
-    (ne_eqb c.in_ok-base.base old.next c.if-base-self.false))) refl c.if-self-gt-LAST_NAME.false in
+    (ne_eqb c.in_ok-base.base old.next c.if-base-self.false))) refl refl c.if-self-gt-LAST_NAME.false in
     record { names = all.0; extends = all.1; base = all.2 }

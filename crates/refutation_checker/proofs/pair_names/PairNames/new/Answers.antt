@@ -14,5 +14,6 @@ returns c =
       kept = none_kept x (record { trees = c.in_ok-trees.trees.items; next = 1 }) c.new-known.result.numbers
           c.new-known.result.bases.items c.new-known.ensures.numbers
           c.new-known.ensures.bases;
+      last = λ within. absurd (omega (arith, within, c.len-count.ensures, c.args.e.now.bindings.now.sets.ok.0));
       small = omega arith;
     }
