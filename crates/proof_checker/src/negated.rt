@@ -56,6 +56,7 @@ pub(crate) enum NegatedClause {
 }
 
 // One of the clauses of the gates, of which each has three; none where a constant makes it true.
+#[inline(always)]
 fn gate_clause(circuit: &Circuit, i: u64) -> Option<ShortClause>
     requires { i / 3 < length circuit.now.gates }
     ensures { option_map short_literals result
@@ -98,6 +99,7 @@ impl<'f, 'c, 't> NegatedMatrix<'f, 'c, 't> {
     }
 
     // The clause at a place behind those of the gates.
+    #[inline(always)]
     fn formula_clause(&self, i: u64) -> NegatedClause
         ensures { literals_of self.now result
             ≡ option_and_then without_constants (slice_get (formula_clauses self.now) i) }
@@ -116,7 +118,9 @@ impl<'f, 'c, 't> NegatedMatrix<'f, 'c, 't> {
         NegatedClause::Missing
     }
 
-    // The clause with an id.
+    // The clause with an id. It is what a hint costs, so that it stands where it is called, and what it
+    // calls too: its literals stay in registers then.
+    #[inline(always)]
     fn clause(&self, id: u64) -> NegatedClause
         ensures { literals_of self.now result ≡ negated_candidate self.now id }
     {

@@ -31,6 +31,7 @@ impl Model for ShortClause {
 }
 
 /// The clause of two literals, where a false one is dropped; none where one is true.
+#[inline(always)]
 pub fn short_of_two(k: u64, l: u64) -> Option<ShortClause>
     requires k_in_range { k ≤ 9223372036854775807 }
     requires l_in_range { l ≤ 9223372036854775807 }
@@ -52,6 +53,7 @@ pub fn short_of_two(k: u64, l: u64) -> Option<ShortClause>
 }
 
 /// The same of three literals.
+#[inline(always)]
 pub fn short_of_three(j: u64, k: u64, l: u64) -> Option<ShortClause>
     requires j_in_range { j ≤ 9223372036854775807 }
     requires k_in_range { k ≤ 9223372036854775807 }
