@@ -43,7 +43,7 @@ fn make_room(blocks: &mut Vec<Row>, count: u128) -> Result<(), Memory>
     ensures room { OnOk result (count < length blocks.new.items * BLOCK) }
     ensures same { AreSameBelow count (mark_among blocks.old.items) (mark_among blocks.new.items) }
 {
-    if count < blocks.len() as u128 * BLOCK {
+    if ((count / BLOCK) as usize) < blocks.len() {
         return Ok(());
     }
     let block = Row::new(*blocks.allocator(), BLOCK as usize)?;

@@ -1,6 +1,6 @@
 //! The row lines of a refutation.
 
-ghost use Rattle.std.specs.Prelude.{◌≡◌, ◌++◌, ◌∷◌, [], pos, nat_abs, length, map, All, Ok, IfOk, IfSome, IsTrue};
+ghost use Rattle.std.specs.Prelude.{◌≡◌, ◌<◌, ◌++◌, ◌∷◌, [], pos, nat_abs, length, map, slice_set, All, Ok, IfOk, IfSome, IsTrue};
 ghost use Rattle.std.specs.Int.{is_positive};
 ghost use Rattle.std.specs.Str.{bytes_eq as same_numbers};
 ghost use Rattle.dq_text.specs.Line.{line_tokens};
@@ -82,7 +82,8 @@ fn behind_letter(line: &[u8]) -> Option<&[u8]>
 }
 
 // Takes the universals in order, with signs, and then 0 and the end of the line; the signs are
-// written into the row.
+// written into the row. By itself its loop stays in registers.
+#[inline(never)]
 fn take_signs(universals: RowUniversals, signs: &[u8], row: &mut Row) -> bool
     requires spelled { All IsSpelled universals.variables.now }
     requires words { universals.words.now ≡ map number_text universals.variables.now }
@@ -96,10 +97,23 @@ fn take_signs(universals: RowUniversals, signs: &[u8], row: &mut Row) -> bool
         let Some((positive, behind)) = take_sign(universals.words.get(i), rest) else {
             return false;
         };
-        row.set(i, positive);
+        put_sign(row, i, positive);
         rest = behind;
     }
     ends_row(&mut LineTokens::new(rest))
+}
+
+// Writes a sign, each with an instruction of its own: a sign is known where it is read.
+#[inline(always)]
+fn put_sign(row: &mut Row, i: usize, positive: bool)
+    requires { i < length row.old }
+    ensures { row.new ≡ slice_set row.old i positive }
+{
+    if positive {
+        row.set(i, true);
+    } else {
+        row.set(i, false);
+    }
 }
 
 // Takes 0 and the end of the line.
