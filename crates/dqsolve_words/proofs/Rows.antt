@@ -1,11 +1,9 @@
 -- What clap's rows show of what is given.
-use Rattle.std.proofs.Common.{◌≡◌, ◌∙◌, ◌||◌, Bool, cond, true, false, refl, sym, ap, List, [], ◌∷◌, ◌++◌, Option, Some, None, is_some, option_map, append-nil}
-use Rattle.std.specs.Prelude.{find, slice_get, option_and_then}
-use Rattle.std.specs.Option.{option_map_or}
+use Rattle.std.proofs.Common.{◌≡◌, ◌∙◌, Bool, cond, true, false, refl, sym, ap, List, [], ◌∷◌, ◌++◌, Option, Some, None, is_some, option_map, append-nil, arith}
+use Rattle.std.specs.Prelude.{find}
 use Rattle.std.specs.Str.{bytes_eq}
 use Rattle.std.proofs.lemmas.Slice.Eq.{bytes_eq-Decides}
 use Rattle.clap.specs.Walk.{Row, Text, at_row, first_of, has_row, more_values, with_values, without}
-use Rattle.clap.specs.Facts.{explicit_source}
 use Rattle.clap.specs.Takes.{is_given}
 use Rattle.clap.specs.declared.builder.value_parser.Reading.TheVariants as reading
 use Rattle.clap.specs.declared.parser.matches.ValueSource.{ValueSource}
@@ -33,12 +31,7 @@ Shows rows given = (id : Text) → row_by rows id ≡ option_map (row id) (given
 
 pub has_row_is : (id : Text) (rows : List Row) → has_row id rows ≡ is_some (row_by rows id)
 has_row_is id [] = refl
-has_row_is id (r ∷ rows) = go (bytes_eq r.id id) (has_row_is id rows)
-  where
-    go : (b : Bool) → has_row id rows ≡ is_some (row_by rows id)
-        → (b || has_row id rows) ≡ is_some (cond b (Some r) (row_by rows id))
-    go true same = refl
-    go false same = same
+has_row_is id (r ∷ rows) = search (arith, (has_row_is id rows))
 
 -- a row that isn't there is added
 added : (id : Text) (change : Row → List Row) (missing rows : List Row) → row_by rows id ≡ None →
@@ -59,13 +52,7 @@ first_some (Some r) other = Some r
 pub row_behind : (rows : List Row) (r : Row) (id : Text) →
     row_by (rows ++ r ∷ []) id ≡ first_some (row_by rows id) (cond (bytes_eq r.id id) (Some r) None)
 row_behind [] r id = refl
-row_behind (x ∷ rows) r id = go (bytes_eq x.id id) (row_behind rows r id)
-  where
-    go : (b : Bool) → row_by (rows ++ r ∷ []) id ≡ first_some (row_by rows id) (cond (bytes_eq r.id id) (Some r) None)
-        → cond b (Some x) (row_by (rows ++ r ∷ []) id)
-        ≡ first_some (cond b (Some x) (row_by rows id)) (cond (bytes_eq r.id id) (Some r) None)
-    go true rest = refl
-    go false rest = rest
+row_behind (x ∷ rows) r id = search (arith, (row_behind rows r id))
 
 pub nothing_behind : (o : Option Row) → first_some o None ≡ o
 nothing_behind None = refl
@@ -111,24 +98,11 @@ put_shows id value rows given shows none other =
 
 pub has_row_given : (rows : List Row) (given : Given) → Shows rows given → (id : Text) →
     has_row id rows ≡ is_some (given id)
-has_row_given rows given shows id = has_row_is id rows ∙ ap is_some (shows id) ∙ go (given id)
-  where
-    go : (o : Option Text) → is_some (option_map (row id) o) ≡ is_some o
-    go None = refl
-    go (Some value) = refl
+has_row_given rows given shows id = search (arith, has_row_is)
 
 pub first_shown : (rows : List Row) (given : Given) → Shows rows given → (id : Text) → first_of id rows ≡ given id
-first_shown rows given shows id = ap (option_and_then (λ r. slice_get r.values 0)) (shows id) ∙ go (given id)
-  where
-    go : (o : Option Text) → option_and_then (λ (r : Row). slice_get r.values 0) (option_map (row id) o) ≡ o
-    go None = refl
-    go (Some value) = refl
+first_shown rows given shows id = search arith
 
 pub is_given_shown : (rows : List Row) (given : Given) → Shows rows given → (id : Text) →
     is_given id rows ≡ is_some (given id)
-is_given_shown rows given shows id = ap (λ o. option_map_or (λ r. explicit_source r.source) o false) (shows id)
-    ∙ go (given id)
-  where
-    go : (o : Option Text) → option_map_or (λ (r : Row). explicit_source r.source) (option_map (row id) o) false ≡ is_some o
-    go None = refl
-    go (Some value) = refl
+is_given_shown rows given shows id = search arith

@@ -1,6 +1,6 @@
 -- What clap makes of all the words, and how they are spelled.
-use Rattle.std.proofs.Common.{◌≡◌, ◌∙◌, ◌||◌, Bool, cond, true, false, true≢false, refl, sym, ap, ap₂, subst, List, [], ◌∷◌, ◌++◌, Option, Some, None, is_some, option_map, codes, append-nil}
-use Rattle.std.specs.Prelude.{find, option_and_then}
+use Rattle.std.proofs.Common.{◌≡◌, ◌∙◌, Bool, true, false, true≢false, refl, sym, ap, ap₂, subst, List, [], ◌∷◌, ◌++◌, Option, Some, None, is_some, option_map, codes, append-nil, arith}
+use Rattle.std.specs.Prelude.{find}
 use Rattle.std.specs.List.{fold}
 use Rattle.std.specs.Option.{option_map_or}
 use Rattle.std.specs.Str.{bytes_eq}
@@ -15,7 +15,7 @@ use Rattle.clap.proofs.OnLiterals.{clap_on_literals}
 use Rattle.clap.specs.declared.error.kind.ErrorKind.TheVariants.{InvalidSubcommand, UnknownArgument}
 use Rattle.dqsolve_words.specs.Command.{Command, asked_of}
 use Rattle.dqsolve_words.specs.Parsed.{command_in, command_of, given_in, solver_app, without_fault}
-use Rattle.dqsolve_words.specs.Spelling.{Usage, given_by, spelled_command, usage}
+use Rattle.dqsolve_words.specs.Spelling.{Usage, spelled_command, usage}
 use Rattle.dqsolve_words.proofs.Tables.{Fails, IsTable, fails_as, fails_first, leaf, one_fails}
 use Rattle.dqsolve_words.proofs.WordKinds.{has_steps, is_known, is_ordinary, is_separator, is_steps, is_unknown, kind_of_word}
 use Rattle.dqsolve_words.proofs.Walked.{words_read}
@@ -38,15 +38,7 @@ abbrev none_usage : Usage
 none_usage = usage false [] []
 
 none_table : IsTable none_usage []
-none_table = record {
-  places = refl;
-  steps_long = λ takes. absurd (true≢false (sym takes));
-  steps_id = λ takes. absurd (true≢false (sym takes));
-  flag_long = λ f known. absurd (true≢false (sym known));
-  flag_word = λ f known. absurd (true≢false (sym known));
-  other_long = λ f not_steps not_flag. refl;
-  no_short = λ x. refl;
-}
+none_table = search (arith, true≢false)
 
 -- what a parse comes to, by the faults of its walk and by where that ends
 abbrev result_from : Kinds → Walk → Option Command
@@ -132,9 +124,7 @@ not_met program word words unnamed = elim (kind_of_word none_usage (codes "dqsol
 known_as : (program name word : Text) (words : List Text) → bytes_eq name word ≡ true →
     command_of (program ∷ name ∷ words) ≡ spelled_command (program ∷ name ∷ words)
     → command_of (program ∷ word ∷ words) ≡ spelled_command (program ∷ word ∷ words)
-known_as program name word words is h =
-    subst (λ z. command_of (program ∷ z ∷ words) ≡ spelled_command (program ∷ z ∷ words))
-    ((bytes_eq-Decides name word).0 is) h
+known_as program name word words is h = search (arith, bytes_eq-Decides)
 
 solve_reads : (program : Text) (words : List Text) →
     command_of (program ∷ codes "solve" ∷ words) ≡ spelled_command (program ∷ codes "solve" ∷ words)
@@ -174,26 +164,13 @@ session_reads program words = met program (codes "session") words (leaf (codes "
     ∙ words_read session_usage (codes "session") session_rules session_table (asked_of (codes "session")) session_ends
     words
 
--- the first of six that is found
-abbrev first_of_six : {X : Type 0} → Bool → Bool → Bool → Bool → Bool → Bool → X → X → X → X → X → X → Option X
-first_of_six a b c d e f one two three four five six =
-    cond a (Some one) (cond b (Some two) (cond c (Some three) (cond d (Some four) (cond e (Some five)
-    (cond f (Some six) None)))))
-
 module _ (program word : Text) (words : List Text) where
   unknown_name : bytes_eq (codes "solve") word ≡ false → bytes_eq (codes "demo") word ≡ false
       → bytes_eq (codes "pec") word ≡ false → bytes_eq (codes "encode") word ≡ false
       → bytes_eq (codes "defined") word ≡ false → bytes_eq (codes "session") word ≡ false
       → command_of (program ∷ word ∷ words) ≡ spelled_command (program ∷ word ∷ words)
   unfolding spelled_command
-  unknown_name a b c d e f =
-      not_met program word words (λ i. option_map (λ (s : Text × List Text). s.0) (first_of_six (a i || false)
-      (b i || false) (c i || false) (d i || false) (e i || false) (f i || false) (codes "solve", []) (codes "demo", [])
-      (codes "pec", []) (codes "encode", []) (codes "defined", []) (codes "session", [])))
-      ∙ sym (λ i. option_and_then (λ usage. option_and_then (asked_of word) (given_by usage words))
-      (option_map (λ (s : Text × Usage). s.1) (first_of_six (a i) (b i) (c i) (d i) (e i) (f i)
-      (codes "solve", solve_usage) (codes "demo", demo_usage) (codes "pec", pec_usage) (codes "encode", encode_usage)
-      (codes "defined", defined_usage) (codes "session", session_usage))))
+  unknown_name a b c d e f = search (arith, not_met, codes)
 
   by_session : (b : Bool) → bytes_eq (codes "solve") word ≡ false → bytes_eq (codes "demo") word ≡ false
       → bytes_eq (codes "pec") word ≡ false → bytes_eq (codes "encode") word ≡ false

@@ -1,5 +1,5 @@
 -- A command with more subcommands.
-use Rattle.std.proofs.Common.{◌≡◌, ◌∙◌, Result, Ok, Err, ap}
+use Rattle.std.proofs.Common.{◌≡◌, Result, Ok, Err, arith}
 use Rattle.std.specs.Prelude.{IfOk}
 use Rattle.clap.specs.Simple.{App, Shape, app_of, with_subcommand}
 use Rattle.clap.specs.declared.builder.command.Command.{Command}
@@ -9,6 +9,5 @@ pub two_added : {E : Type 0} (before : App) (first second : Shape) (old one : Co
     app_of old ≡ before → app_of one ≡ with_subcommand (app_of old) first →
     IfOk r (λ new. app_of new ≡ with_subcommand (app_of one) second) →
     IfOk r (λ new. app_of new ≡ with_subcommand (with_subcommand before first) second)
-two_added before first second old one (Ok new) is added more =
-    more ∙ ap (λ a. with_subcommand a second) (added ∙ ap (λ a. with_subcommand a first) is)
+two_added before first second old one (Ok new) is added more = search arith
 two_added before first second old one (Err _) is added more = tt

@@ -1,5 +1,5 @@
 -- The arguments of each subcommand, as its usage says.
-use Rattle.std.proofs.Common.{◌≡◌, ◌∙◌, ◌||◌, Bool, cond, true, false, refl, ap, subst, List, [], ◌∷◌, ◌++◌, map, Some, None, codes}
+use Rattle.std.proofs.Common.{◌≡◌, ◌∙◌, ◌||◌, cond, true, false, refl, ap, List, [], ◌∷◌, ◌++◌, map, Some, None, codes, arith}
 use Rattle.std.specs.List.{list_any}
 use Rattle.std.specs.Str.{bytes_eq}
 use Rattle.std.proofs.lemmas.Slice.Eq.{bytes_eq-Decides}
@@ -17,24 +17,12 @@ Each P (x ∷ xs) = P x × Each P xs
 each_known : (P : Text → Type 0) (flags : List Text) → Each P flags → (f : Text) →
     list_any (λ known. bytes_eq known f) flags ≡ true → P f
 each_known P [] all f known = cc
-each_known P (x ∷ xs) all f known = go (bytes_eq x f) refl known (each_known P xs all.1 f)
-  where
-    go : (b : Bool) → bytes_eq x f ≡ b → (b || list_any (λ known. bytes_eq known f) xs) ≡ true
-        → (list_any (λ known. bytes_eq known f) xs ≡ true → P f) → P f
-    go true is known rest = subst P ((bytes_eq-Decides x f).0 is) all.0
-    go false is known rest = rest known
+each_known P (x ∷ xs) all f known = search (arith, (each_known P xs all.1 f), bytes_eq-Decides)
 
 flags_missing : (flags : List Text) (rest : List Rule) (f : Text) → list_any (λ known. bytes_eq known f) flags ≡ false →
     arg_by_long (map flag_rule flags ++ rest) f ≡ arg_by_long rest f
 flags_missing [] rest f missing = refl
-flags_missing (x ∷ xs) rest f missing = go (bytes_eq x f) missing (flags_missing xs rest f)
-  where
-    go : (b : Bool) → (b || list_any (λ known. bytes_eq known f) xs) ≡ false
-        → (list_any (λ known. bytes_eq known f) xs ≡ false
-        → arg_by_long (map flag_rule xs ++ rest) f ≡ arg_by_long rest f)
-        → cond (b || false) (Some (flag_rule x)) (arg_by_long (map flag_rule xs ++ rest) f) ≡ arg_by_long rest f
-    go true missing more = cc
-    go false missing more = more missing
+flags_missing (x ∷ xs) rest f missing = search (arith, (flags_missing xs rest f))
 
 steps_missing : (rest : List Rule) (f : Text) → bytes_eq (codes "steps") f ≡ false →
     arg_by_long (steps_rule ∷ rest) f ≡ arg_by_long rest f
@@ -71,15 +59,7 @@ abbrev pub demo_rules : List Rule
 demo_rules = filled_from 1 demo_shape.rules
 
 pub demo_table : IsTable demo_usage demo_rules
-demo_table = record {
-  places = (refl, refl, (refl, refl, refl));
-  steps_long = λ takes. no_flags (λ f. arg_by_long demo_rules f ≡ Some steps_rule) (codes "steps") takes;
-  steps_id = λ takes. cc;
-  flag_long = no_flags (λ f. arg_by_long demo_rules f ≡ Some (flag_rule f));
-  flag_word = no_flags (λ f. long_of (45 ∷ 45 ∷ f) ≡ Some (f, None));
-  other_long = λ f not_steps not_flag. refl;
-  no_short = λ x. refl;
-}
+demo_table = search (arith, codes, no_flags)
 
 abbrev pub pec_usage : Usage
 pec_usage = usage true [] (codes "SPEC" ∷ codes "IMPL" ∷ [])
@@ -88,16 +68,7 @@ abbrev pub pec_rules : List Rule
 pec_rules = filled_from 1 pec_shape.rules
 
 pub pec_table : IsTable pec_usage pec_rules
-pec_table = record {
-  places = (refl, refl, (refl, refl, refl));
-  steps_long = λ takes. refl;
-  steps_id = λ takes. refl;
-  flag_long = no_flags (λ f. arg_by_long pec_rules f ≡ Some (flag_rule f));
-  flag_word = no_flags (λ f. long_of (45 ∷ 45 ∷ f) ≡ Some (f, None));
-  other_long = λ f not_steps not_flag.
-      steps_missing (place_rule 1 (codes "SPEC") ∷ place_rule 2 (codes "IMPL") ∷ []) f not_steps;
-  no_short = λ x. refl;
-}
+pec_table = search (arith, no_flags, codes)
 
 abbrev pub encode_usage : Usage
 encode_usage = usage false [] (codes "SPEC" ∷ codes "IMPL" ∷ [])
@@ -106,15 +77,7 @@ abbrev pub encode_rules : List Rule
 encode_rules = filled_from 1 encode_shape.rules
 
 pub encode_table : IsTable encode_usage encode_rules
-encode_table = record {
-  places = (refl, refl, (refl, refl, refl));
-  steps_long = λ takes. no_flags (λ f. arg_by_long encode_rules f ≡ Some steps_rule) (codes "steps") takes;
-  steps_id = λ takes. cc;
-  flag_long = no_flags (λ f. arg_by_long encode_rules f ≡ Some (flag_rule f));
-  flag_word = no_flags (λ f. long_of (45 ∷ 45 ∷ f) ≡ Some (f, None));
-  other_long = λ f not_steps not_flag. refl;
-  no_short = λ x. refl;
-}
+encode_table = search (arith, codes, no_flags)
 
 abbrev pub defined_usage : Usage
 defined_usage = usage true [] (codes "FILE" ∷ [])
@@ -123,15 +86,7 @@ abbrev pub defined_rules : List Rule
 defined_rules = filled_from 1 defined_shape.rules
 
 pub defined_table : IsTable defined_usage defined_rules
-defined_table = record {
-  places = (refl, refl, refl);
-  steps_long = λ takes. refl;
-  steps_id = λ takes. refl;
-  flag_long = no_flags (λ f. arg_by_long defined_rules f ≡ Some (flag_rule f));
-  flag_word = no_flags (λ f. long_of (45 ∷ 45 ∷ f) ≡ Some (f, None));
-  other_long = λ f not_steps not_flag. steps_missing (place_rule 1 (codes "FILE") ∷ []) f not_steps;
-  no_short = λ x. refl;
-}
+defined_table = search (arith, no_flags, codes)
 
 abbrev pub session_usage : Usage
 session_usage = usage true [] (codes "FILE" ∷ codes "SCRIPT" ∷ [])
@@ -140,13 +95,4 @@ abbrev pub session_rules : List Rule
 session_rules = filled_from 1 session_shape.rules
 
 pub session_table : IsTable session_usage session_rules
-session_table = record {
-  places = (refl, refl, (refl, refl, refl));
-  steps_long = λ takes. refl;
-  steps_id = λ takes. refl;
-  flag_long = no_flags (λ f. arg_by_long session_rules f ≡ Some (flag_rule f));
-  flag_word = no_flags (λ f. long_of (45 ∷ 45 ∷ f) ≡ Some (f, None));
-  other_long = λ f not_steps not_flag.
-      steps_missing (place_rule 1 (codes "FILE") ∷ place_rule 2 (codes "SCRIPT") ∷ []) f not_steps;
-  no_short = λ x. refl;
-}
+session_table = search (arith, no_flags, codes)

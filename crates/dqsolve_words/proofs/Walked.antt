@@ -1,15 +1,15 @@
 -- What clap makes of the words of a subcommand: from each place of its walk, what the words still to come give.
-use Rattle.std.proofs.Common.{◌≡◌, inl, inr, ◌∙◌, ◌+◌, ◌&&◌, ℕ, Bool, cond, min, true, false, true≢false, refl, sym, ap, ap₂, subst, List, [], ◌∷◌, ◌++◌, Option, Some, None, is_some, codes}
+use Rattle.std.proofs.Common.{◌≡◌, inl, inr, ◌∙◌, ◌+◌, ◌&&◌, ℕ, Bool, cond, min, true, false, true≢false, refl, sym, ap, subst, List, [], ◌∷◌, ◌++◌, Option, Some, None, is_some, codes, arith}
 use Rattle.std.specs.Prelude.{option_and_then}
 use Rattle.std.specs.List.{fold}
 use Rattle.std.specs.Option.{option_map_or}
 use Rattle.std.specs.Str.{bytes_eq}
 use Rattle.clap.specs.Lexer.{long_of, usize_max}
-use Rattle.clap.specs.Walk.{Held, Row, Rule, Step, Text, Waiting, Walk, after_flag, after_step, arg_by_id, arg_by_index, finished, has_row, idle, is_pending, long_met, long_or_other, next, nothing_held, option, option_word, pushed, reacted, settled, subcommand_or_other, to_positional, trailing, used_by_id, value, walked, with_default, word_met}
+use Rattle.clap.specs.Walk.{Held, Row, Rule, Step, Text, Waiting, Walk, after_flag, after_step, arg_by_id, arg_by_index, finished, has_row, idle, long_met, long_or_other, next, nothing_held, option, option_word, reacted, settled, subcommand_or_other, to_positional, trailing, used_by_id, value, walked, with_default, word_met}
 use Rattle.clap.specs.Simple.{Shape}
 use Rattle.clap.specs.Kinds.{Kinds, or_else}
-use Rattle.clap.specs.Faults.{check_fault, defaults_fault, flag_word_fault, long_fault, other_fault, positional_fault, settle_fault, step_fault, stray_fault, turn_fault, use_fault, walk_fault, word_fault}
-use Rattle.clap.specs.declared.error.kind.ErrorKind.TheVariants.{ArgumentConflict, InvalidValue, UnknownArgument}
+use Rattle.clap.specs.Faults.{check_fault, defaults_fault, long_fault, other_fault, settle_fault, step_fault, turn_fault, use_fault, walk_fault, word_fault}
+use Rattle.clap.specs.declared.error.kind.ErrorKind.TheVariants.{ArgumentConflict}
 use Rattle.dqsolve_words.specs.Command.{Command, Given}
 use Rattle.dqsolve_words.specs.Parsed.{given_in, without_fault}
 use Rattle.dqsolve_words.specs.Spelling.{Place, Reading, Usage, among, behind_separator, behind_steps, is_flag, is_option, read_words, with_value}
@@ -79,8 +79,7 @@ module _ (u : Usage) (name : Text) (rules : List Rule) (table : IsTable u rules)
   turn_is : (h : Held) (waiting : Waiting) (position : ℕ) (word : Text) (k : Kinds) (m : Held × Step)
       → word_fault shape [] false waiting word h ≡ k → word_met rules [] false waiting position word h ≡ m
       → turn_fault shape [] (place h waiting position false) word ≡ or_else k (step_fault shape position m.0 m.1)
-  turn_is h waiting position word k m fault met =
-      ap₂ (λ (k : Kinds) (m : Held × Step). or_else k (step_fault shape position m.0 m.1)) fault met
+  turn_is h waiting position word k m fault met = search arith
 
   turn_fails : (h : Held) (waiting : Waiting) (position : ℕ) (word : Text) (words : List Text)
       → Fails (word_fault shape [] false waiting word h) → result (place h waiting position false) (word ∷ words) ≡ None
@@ -92,8 +91,7 @@ module _ (u : Usage) (name : Text) (rules : List Rule) (table : IsTable u rules)
       → walked rules [] (place h waiting position false) word
       ≡ after_step rules word (place h waiting position false) m.0 m.1
   unfolding walked
-  walk_is h waiting position word m met =
-      ap (λ (m : Held × Step). after_step rules word (place h waiting position false) m.0 m.1) met
+  walk_is h waiting position word m met = search arith
 
   -- ---- options that are known
 
@@ -111,8 +109,7 @@ module _ (u : Usage) (name : Text) (rules : List Rule) (table : IsTable u rules)
     value_met : (v : Text) (waiting : Waiting) (position : ℕ) → u.steps ≡ true
         → subcommand_or_other rules None waiting position (codes "--steps=" ++ v) h
         ≡ (reacted rules steps_rule (v ∷ []) h, next idle)
-    value_met v waiting position takes = ap (λ o. after_flag rules waiting (codes "--steps=" ++ v)
-        (long_met rules o (Some v) h).0 (long_met rules o (Some v) h).1) (table.steps_long takes)
+    value_met v waiting position takes = search (arith, codes)
 
     steps_fault : u.steps ≡ true → other_fault shape None (codes "--steps") h ≡ settle_fault rules false h
     steps_fault takes = ap (λ o. long_fault rules false o None h) (table.steps_long takes)
@@ -120,8 +117,7 @@ module _ (u : Usage) (name : Text) (rules : List Rule) (table : IsTable u rules)
     steps_met : (waiting : Waiting) (position : ℕ) → u.steps ≡ true
         → subcommand_or_other rules None waiting position (codes "--steps") h
         ≡ (record (settled rules h) { pending = Some (codes "steps", []) }, next (option (codes "steps")))
-    steps_met waiting position takes = ap (λ o. after_flag rules waiting (codes "--steps")
-        (long_met rules o None h).0 (long_met rules o None h).1) (table.steps_long takes)
+    steps_met waiting position takes = search (arith, codes)
 
     flag_dashes : (f : Text) → is_flag u f ≡ true → bytes_eq (45 ∷ 45 ∷ f) (codes "--") ≡ false
     flag_dashes [] known = absurd (true≢false (sym (ap is_some (table.flag_word [] known))))
@@ -129,10 +125,7 @@ module _ (u : Usage) (name : Text) (rules : List Rule) (table : IsTable u rules)
 
     flag_fault : (f : Text) → is_flag u f ≡ true → other_fault shape None (45 ∷ 45 ∷ f) h
         ≡ after_settling (use_by (has_row f rows))
-    flag_fault f known =
-        ap (λ b. cond b [] (flag_word_fault rules false (long_of (45 ∷ 45 ∷ f)) (45 ∷ 45 ∷ f) h)) (flag_dashes f known)
-        ∙ ap (λ o. flag_word_fault rules false o (45 ∷ 45 ∷ f) h) (table.flag_word f known)
-        ∙ ap (λ o. long_fault rules false o None h) (table.flag_long f known)
+    flag_fault f known = search (arith, flag_dashes)
 
     flag_met : (f : Text) (waiting : Waiting) (position : ℕ) → is_flag u f ≡ true
         → subcommand_or_other rules None waiting position (45 ∷ 45 ∷ f) h
@@ -157,19 +150,13 @@ module _ (u : Usage) (name : Text) (rules : List Rule) (table : IsTable u rules)
   -- a name at a position fails where what was pending does, or where no place is left
   name_fails : (h : Held) (position : ℕ) (left : List Text) → Fails (settle_fault rules false h)
       → ArePlaces rules position left → Fails (step_fault shape position h value)
-  name_fails h position [] bad places = fails_as (step_fault shape position h value) (UnknownArgument ∷ [])
-      (ap (λ o. option_map_or (λ a. positional_fault rules false a h) o (stray_fault shape)) places)
-      (one_fails UnknownArgument [])
-  name_fails h position (id ∷ left) bad places = fails_as (step_fault shape position h value) (settle_fault rules false h)
-      (ap (λ o. option_map_or (λ a. positional_fault rules false a h) o (stray_fault shape)) places.0
-      ∙ no_several_fault (is_pending (place_rule position id) h.pending) (settle_fault rules false h)) bad
+  name_fails h position [] bad places = search (arith, fails_as, one_fails)
+  name_fails h position (id ∷ left) bad places = search (arith, fails_as, no_several_fault)
 
   doomed_end : (h : Held) (waiting : Waiting) (position : ℕ) (is_trailing : Bool) → Fails (settle_fault rules false h)
       → result (place h waiting position is_trailing) [] ≡ None
   unfolding walk_fault
-  doomed_end h waiting position is_trailing bad =
-      refused_by (fault_from [] (place h waiting position is_trailing)) (asked (given_in (finished rules h)))
-      (fails_first (settle_fault rules false h) _ bad)
+  doomed_end h waiting position is_trailing bad = search (arith, refused_by, fails_first)
 
   doomed_behind : (h : Held) (waiting : Waiting) (position : ℕ) (left words : List Text)
       → Fails (settle_fault rules false h) → ArePlaces rules position left
@@ -330,28 +317,18 @@ module _ (u : Usage) (name : Text) (rules : List Rule) (table : IsTable u rules)
 
   stray_fails : (h : Held) (position : ℕ) → arg_by_index rules position ≡ None
       → Fails (step_fault shape position h value)
-  stray_fails h position none = fails_as (step_fault shape position h value) (UnknownArgument ∷ [])
-      (ap (λ o. option_map_or (λ a. positional_fault rules false a h) o (stray_fault shape)) none)
-      (one_fails UnknownArgument [])
+  stray_fails h position none = search (arith, fails_as, one_fails)
 
   name_fault : (h : Held) (given : Given) (position : ℕ) (id : Text) → Stands h given
       → arg_by_index rules position ≡ Some (place_rule position id) → step_fault shape position h value ≡ []
-  name_fault h given position id stands found =
-      ap (λ o. option_map_or (λ a. positional_fault rules false a h) o (stray_fault shape)) found
-      ∙ no_several_fault (is_pending (place_rule position id) h.pending) (settle_fault rules false h) ∙ stands.fine
+  name_fault h given position id stands found = search (arith, no_several_fault)
 
   name_walk : (h : Held) (position : ℕ) (id word : Text) (is_trailing : Bool)
       → arg_by_index rules position ≡ Some (place_rule position id)
       → to_positional rules (arg_by_index rules position) word (place h idle position is_trailing) h
       ≡ place (waiting_value h id word) idle (min (position + 1) usize_max) is_trailing
-  name_walk h position id word true found =
-      ap (λ o. to_positional rules o word (place h idle position true) h) found
-      ∙ ap (λ k. place (pushed id word k) idle (min (position + 1) usize_max) true)
-      (no_several (is_pending (place_rule position id) h.pending) h (settled rules h))
-  name_walk h position id word false found =
-      ap (λ o. to_positional rules o word (place h idle position false) h) found
-      ∙ ap (λ k. place (pushed id word k) idle (min (position + 1) usize_max) false)
-      (no_several (is_pending (place_rule position id) h.pending) h (settled rules h))
+  name_walk h position id word true found = search (arith, no_several)
+  name_walk h position id word false found = search (arith, no_several)
 
   name_waits : (h : Held) (given : Given) (id word : Text) (position later : ℕ) (left words : List Text)
       → Stands h given → arg_by_id rules id ≡ Some (place_rule position id) → ArePlaces rules later left
@@ -397,9 +374,7 @@ module _ (u : Usage) (name : Text) (rules : List Rule) (table : IsTable u rules)
       ≡ gives (read_words u (reading behind_steps given left) words)
 
   awaited_fails : (h : Held) → u.steps ≡ true → Fails (settle_fault rules false (awaited h))
-  awaited_fails h takes = fails_as (settle_fault rules false (awaited h)) (InvalidValue ∷ [])
-      (ap (λ o. option_map_or (λ a. use_fault false a [] (settled rules h).rows) o []) (table.steps_id takes))
-      (one_fails InvalidValue [])
+  awaited_fails h takes = search (arith, fails_as, one_fails)
 
   word_among : (word : Text) (words : List Text) → AmongReads words → BehindStepsReads words → (h : Held) (given : Given)
       (position : ℕ) (left : List Text) → Stands h given → ArePlaces rules position left
@@ -463,9 +438,7 @@ module _ (u : Usage) (name : Text) (rules : List Rule) (table : IsTable u rules)
 
   among_step : (word : Text) (words : List Text) → AmongReads words → BehindStepsReads words → AmongReads (word ∷ words)
   unfolding read_words
-  among_step word words rest behind h given position left stands places =
-      word_among word words rest behind h given position left stands places
-      ∙ ap (reads words) (sym (read_is u word (reading among given left)))
+  among_step word words rest behind h given position left stands places = search (arith, word_among, read_is)
 
   steps_step : (word : Text) (words : List Text) → AmongReads words → BehindStepsReads (word ∷ words)
   unfolding read_words
@@ -506,9 +479,7 @@ module _ (u : Usage) (name : Text) (rules : List Rule) (table : IsTable u rules)
     λ h given position left takes stands places.
         doomed_end (awaited h) (option (codes "steps")) position false (awaited_fails h takes),
   )
-  all_read (word ∷ words) =
-      let (rest, behind) = all_read words in
-      (among_step word words rest behind, steps_step word words rest)
+  all_read (word ∷ words) = search (arith, (all_read words), among_step, steps_step)
 
   -- a subcommand's words give what they spell
   pub words_read : (words : List Text) → result (place nothing_held idle 1 false) words

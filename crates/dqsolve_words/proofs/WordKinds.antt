@@ -1,18 +1,16 @@
 -- What a word is among options and names, for the spelling and for clap.
-use Rattle.std.proofs.Common.{◌≡◌, ◌⊎◌, inl, inr, ◌∙◌, ◌&&◌, ◌||◌, ◌==◌, ◌+◌, ℕ, zero, suc, Bool, cond, not, true, false, true≢false, refl, sym, ap, ap₂, subst, arith, List, [], ◌∷◌, ◌++◌, length, take, drop, Option, Some, None, is_some, eqb-true, codes}
+use Rattle.std.proofs.Common.{◌≡◌, ◌⊎◌, ◌∙◌, ◌&&◌, ◌||◌, ◌==◌, ◌+◌, ℕ, zero, suc, Bool, cond, not, true, false, true≢false, refl, sym, ap, ap₂, subst, arith, List, [], ◌∷◌, ◌++◌, take, drop, Option, Some, None, is_some, eqb-true, codes}
 use Rattle.std.specs.Prelude.{option_and_then, slice_get}
 use Rattle.std.specs.List.{before_first, after_first, position_or_len}
-use Rattle.std.specs.Option.{option_map_or}
-use Rattle.std.specs.Char.{encode_utf8}
 use Rattle.std.specs.Str.{bytes_eq, chars}
 use Rattle.std.proofs.lemmas.List.{take-append-drop}
 use Rattle.std.proofs.lemmas.Slice.Eq.{bytes_eq-Decides}
 use Rattle.list_laws.proofs.Truths.{and-false}
 use Rattle.clap.specs.Lexer.{has_byte, long_of, long_of_rest, short_of, short_of_rest, strip_byte}
-use Rattle.clap.specs.Walk.{Held, Outcome, Rule, Text, Waiting, arg_by_long, bundle_met, bundle_step, long_or_other, plain, short_or_plain, after_flag, plain_word, subcommand_or_other, trailing}
+use Rattle.clap.specs.Walk.{Held, Rule, Text, Waiting, arg_by_long, bundle_met, bundle_step, plain, plain_word, subcommand_or_other}
 use Rattle.clap.specs.Simple.{Shape}
 use Rattle.clap.specs.Kinds.{Kinds}
-use Rattle.clap.specs.Faults.{bundle_fault, bundle_step_fault, flag_word_fault, flags_fault, long_fault, other_fault, short_fault}
+use Rattle.clap.specs.Faults.{flags_fault, long_fault, other_fault}
 use Rattle.dqsolve_words.specs.Spelling.{Reading, Usage, behind_separator, behind_steps, is_flag, is_option, read_among, with_name, with_value}
 use Rattle.clap.specs.declared.error.kind.ErrorKind.TheVariants.{TooManyValues, UnknownArgument}
 use Rattle.dqsolve_words.proofs.Tables.{Fails, IsTable, fails_as, leaf, one_fails}
@@ -104,17 +102,7 @@ word_by dashes named valued known minus value f =
 no_dashes : (u : Usage) (word : Text) → bytes_eq word (codes "--") ≡ false → bytes_eq word (codes "--steps") ≡ false →
     bytes_eq (take 8 word) (codes "--steps=") ≡ false → bytes_eq (take 2 word) (codes "--") ≡ false →
     word_of u word ≡ cond (is_option word) unknown ordinary
-no_dashes u word dashes named valued begins =
-    ap (λ b. word_by b (u.steps && bytes_eq word (codes "--steps"))
-    (u.steps && bytes_eq (take 8 word) (codes "--steps="))
-    (bytes_eq (take 2 word) (codes "--") && is_flag u (drop 2 word)) (is_option word) (drop 8 word) (drop 2 word)) dashes
-    ∙ ap (λ b. word_by false b (u.steps && bytes_eq (take 8 word) (codes "--steps="))
-    (bytes_eq (take 2 word) (codes "--") && is_flag u (drop 2 word)) (is_option word) (drop 8 word) (drop 2 word))
-    (ap (λ b. u.steps && b) named ∙ and-false u.steps)
-    ∙ ap (λ b. word_by false false b
-    (bytes_eq (take 2 word) (codes "--") && is_flag u (drop 2 word)) (is_option word) (drop 8 word) (drop 2 word))
-    (ap (λ b. u.steps && b) valued ∙ and-false u.steps)
-    ∙ ap (λ b. word_by false false false (b && is_flag u (drop 2 word)) (is_option word) (drop 8 word) (drop 2 word)) begins
+no_dashes u word dashes named valued begins = search (arith, codes, and-false)
 
 -- ---- what clap makes of a word that is no flag
 
@@ -145,15 +133,7 @@ module _ (u : Usage) (name : Text) (rules : List Rule) (table : IsTable u rules)
     is_ordinary : word_of u word ≡ ordinary → is_option word ≡ false → IsPlain word → Kind word
 
   no_flag : (word : Text) → bytes_eq word (codes "--") ≡ false → long_of word ≡ None → short_of word ≡ None → IsPlain word
-  no_flag word dashes long short = record {
-    met = λ h waiting position none.
-        ap (λ b. cond b (h, trailing position) (long_or_other rules waiting word (long_of word) h)) dashes
-        ∙ ap (λ o. long_or_other rules waiting word o h) long ∙ ap (λ o. short_or_plain rules waiting word o h) short;
-    fault = λ h none.
-        ap (λ b. cond b [] (flag_word_fault rules false (long_of word) word h)) dashes
-        ∙ ap (λ o. flag_word_fault rules false o word h) long
-        ∙ ap (λ o. option_map_or (λ flags. bundle_fault rules false flags h) o []) short;
-  }
+  no_flag word dashes long short = search arith
 
   -- ---- a minus and no character behind it
 
@@ -167,8 +147,7 @@ module _ (u : Usage) (name : Text) (rules : List Rule) (table : IsTable u rules)
       flags_fault rules false n flags 0 h ≡ []
   unfolding flags_fault
   no_bundle_fault zero flags h none = refl
-  no_bundle_fault (suc n) flags h none = ap (λ o. bundle_step_fault rules false o flags 0 h
-      (flags_fault rules false n)) none
+  no_bundle_fault (suc n) flags h none = search arith
 
   -- with no flag to pass over
   abbrev rested : Held → Held
@@ -179,43 +158,19 @@ module _ (u : Usage) (name : Text) (rules : List Rule) (table : IsTable u rules)
 
   empty_flag : (word flags : Text) → bytes_eq word (codes "--") ≡ false → long_of word ≡ None
       → short_of word ≡ Some flags → slice_get (chars flags) 0 ≡ None → IsPlain word
-  empty_flag word flags dashes long short none = record {
-    met = λ h waiting position unskipped. subst (λ k. subcommand_or_other rules None waiting position word k ≡
-        plain_word rules waiting word k)
-        (sym (as_rested h unskipped))
-        (ap (λ b. cond b (rested h, trailing position)
-        (long_or_other rules waiting word (long_of word) (rested h))) dashes
-        ∙ ap (λ o. long_or_other rules waiting word o (rested h)) long ∙ ap
-        (λ o. short_or_plain rules waiting word o (rested h)) short
-        ∙ ap (λ (p : Held × Outcome). after_flag rules waiting word p.0 p.1)
-        (no_bundle (length flags) flags (rested h) none));
-    fault = λ h unskipped. subst (λ k. other_fault shape None word k ≡ []) (sym (as_rested h unskipped))
-        (ap (λ b. cond b [] (flag_word_fault rules false (long_of word) word (rested h))) dashes
-        ∙ ap (λ o. flag_word_fault rules false o word (rested h)) long
-        ∙ ap (λ o. option_map_or (λ flags. bundle_fault rules false flags (rested h)) o []) short
-        ∙ no_bundle_fault (length flags) flags (rested h) none);
-  }
+  empty_flag word flags dashes long short none = search (arith, as_rested, no_bundle, no_bundle_fault)
 
   -- ---- a short flag, of which the command has none
 
   first_fault : (n : ℕ) (flags : Text) (first : ℕ) (h : Held) → slice_get (chars flags) 0 ≡ Some first →
       flags_fault rules false (suc n) flags 0 h ≡ refused_kinds
   unfolding flags_fault
-  first_fault n flags first h found =
-      let rest = drop (length (encode_utf8 first)) flags in
-      ap (λ o. bundle_step_fault rules false o flags 0 h (flags_fault rules false n)) found
-      ∙ ap (λ o. short_fault rules false o rest h (flags_fault rules false n rest 0)) (table.no_short first)
+  first_fault n flags first h found = search arith
 
   short_flag : (word rest : Text) (x first : ℕ) → bytes_eq word (codes "--") ≡ false → long_of word ≡ None
       → short_of word ≡ Some (x ∷ rest) → slice_get (chars (x ∷ rest)) 0 ≡ Some first → IsRefused word
   short_flag word rest x first dashes long short found h unskipped =
-      fails_as (other_fault shape None word h) refused_kinds
-      (subst (λ k. other_fault shape None word k ≡ refused_kinds) (sym (as_rested h unskipped))
-      (ap (λ b. cond b [] (flag_word_fault rules false (long_of word) word (rested h))) dashes
-      ∙ ap (λ o. flag_word_fault rules false o word (rested h)) long
-      ∙ ap (λ o. option_map_or (λ flags. bundle_fault rules false flags (rested h)) o []) short
-      ∙ first_fault (length rest) (x ∷ rest) first (rested h) found))
-      (one_fails UnknownArgument [])
+      search (arith, fails_as, as_rested, first_fault, one_fails)
 
   -- ---- a word behind two minuses
 
@@ -323,23 +278,14 @@ module _ (u : Usage) (name : Text) (rules : List Rule) (table : IsTable u rules)
 
   ordinary_kind : (word : Text) → word_of u word ≡ cond (is_option word) unknown ordinary → is_option word ≡ false
       → IsPlain word → Kind word
-  ordinary_kind word tests minus taken =
-      is_ordinary (tests ∙ ap (λ b. cond b unknown ordinary) minus) minus taken
+  ordinary_kind word tests minus taken = search (arith, is_ordinary, ordinary)
 
   no_minus : (x : ℕ) (rest : Text) → (x == 45) ≡ false → Kind (x ∷ rest)
-  no_minus x rest first =
-      let dashes : bytes_eq (x ∷ rest) (codes "--") ≡ false = ap (λ b. b && bytes_eq rest (codes "-")) first in
-      ordinary_kind (x ∷ rest)
-      (no_dashes u (x ∷ rest) dashes (ap (λ b. b && bytes_eq rest (codes "-steps")) first)
-      (ap (λ b. b && bytes_eq (take 7 rest) (codes "-steps=")) first)
-      (ap (λ b. b && bytes_eq (take 1 rest) (codes "-")) first))
-      (ap (λ b. b && is_some (slice_get (chars rest) 0)) first)
-      (no_flag (x ∷ rest) dashes (ap (λ b. long_by b rest) first) (ap (λ b. short_by b rest) first))
+  no_minus x rest first = search (arith, codes, ordinary_kind, no_dashes, no_flag)
 
   minus_alone : Kind (45 ∷ [])
   unfolding chars
-  minus_alone = ordinary_kind (45 ∷ []) (no_dashes u (45 ∷ []) refl refl refl refl) refl
-      (no_flag (45 ∷ []) refl refl refl)
+  minus_alone = search (arith, ordinary_kind, no_dashes, no_flag)
 
   one_minus : (y : ℕ) (rest : Text) → (y == 45) ≡ false → Kind (45 ∷ y ∷ rest)
   one_minus y rest second = go (slice_get (chars (y ∷ rest)) 0) refl
@@ -397,11 +343,4 @@ module _ (u : Usage) (name : Text) (rules : List Rule) (table : IsTable u rules)
   pub option_or_ordinary : (word : Text) → (is_option word ≡ true) ⊎ (is_option word ≡ false)
       × (word_of u word ≡ ordinary) × IsPlain word
   unfolding chars
-  option_or_ordinary word = elim (kind_of_word word) [
-    | is_separator is ↦ inl (ap is_option is)
-    | is_steps takes is tests ↦ inl (ap is_option is)
-    | has_steps value takes is tests ↦ inl (ap is_option is)
-    | is_known f known is tests ↦ inl (ap is_option is ∙ dashes_option f)
-    | is_unknown tests minus refused ↦ inl minus
-    | is_ordinary tests minus taken ↦ inr (minus, tests, taken)
-  ]
+  option_or_ordinary word = search (arith, kind_of_word, is_steps, has_steps, is_known, dashes_option, is_ordinary)
