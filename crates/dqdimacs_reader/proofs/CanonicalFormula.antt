@@ -1,5 +1,5 @@
 -- A formula that some text may spell is spelled by its canonical text.
-use Rattle.std.proofs.Common.{◌≡◌, ◌≢◌, ℕ, zero, suc, ◌^◌, ◌==◌, ◌<◌, ◌||◌, ◌&&◌, Bool, true, false, not, true≢false, if◌then◌else◌, List, [], ◌∷◌, ◌++◌, map, length, get_or, refl, sym, ◌∙◌, ap, subst, arith, append_assoc, append-nil, length-append, Contains, inl, inr}
+use Rattle.std.proofs.Common.{◌≡◌, ◌≢◌, ℕ, zero, suc, ◌^◌, ◌==◌, ◌<◌, ◌||◌, ◌&&◌, Bool, true, false, not, if◌then◌else◌, List, [], ◌∷◌, ◌++◌, map, length, get_or, refl, sym, ◌∙◌, ap, subst, arith, append_assoc, append-nil, length-append, Contains}
 use Rattle.std.specs.List.{All, AllPairs, AllByRecursion, list_any, filter, flat_map, fold, range_with_len}
 use Rattle.std.proofs.lemmas.Bool.{cases_Bool, ne_eqb}
 use Rattle.std.proofs.lemmas.List.{length-map}
@@ -80,17 +80,13 @@ literal_elsewhere : (ds : List ℕ) (v : ℕ) (ls : List Literal) → list_any (
     AllByRecursion (λ l. Contains ds (variable_of l)) ls → list_any (λ l. variable_of l == v) ls ≡ false
 literal_elsewhere ds v [] undeclared are = refl
 literal_elsewhere ds v (l ∷ ls) undeclared are =
-    let differs : variable_of l ≢ v = λ h.
-    true≢false (sym (tested_inside ds (variable_of l) are.0) ∙ ap (λ w. list_any (λ x. x == w) ds) h ∙ undeclared) in
-    ap (λ b. b || list_any (λ k. variable_of k == v) ls) (ne_eqb (variable_of l) v differs)
-    ∙ literal_elsewhere ds v ls undeclared are.1
+    search (arith, tested_inside, ne_eqb, (literal_elsewhere ds v ls undeclared are.1))
 
 clause_elsewhere : (ds : List ℕ) (v : ℕ) (clauses : List (List Literal)) → list_any (λ x. x == v) ds ≡ false →
     AllByRecursion (AllByRecursion (λ l. Contains ds (variable_of l))) clauses → occurs clauses v ≡ false
 clause_elsewhere ds v [] undeclared are = refl
 clause_elsewhere ds v (ls ∷ clauses) undeclared are =
-    ap (λ b. b || occurs clauses v) (literal_elsewhere ds v ls undeclared are.0)
-    ∙ clause_elsewhere ds v clauses undeclared are.1
+    search (arith, literal_elsewhere, (clause_elsewhere ds v clauses undeclared are.1))
 
 free_no : (b : Bool) (f : Dqbf) (v : ℕ) → is_declared f v ≡ b → (b ≡ false → occurs f.matrix v ≡ false) →
     (not (is_declared f v) && occurs f.matrix v) ≡ false
@@ -110,14 +106,7 @@ none_free f are =
 
 all_pass : (p : ℕ → Bool) (us : List ℕ) → length (filter p us) ≡ length us → filter p us ≡ us
 all_pass p [] same = refl
-all_pass p (u ∷ us) same = elim (cases_Bool (p u)) [
-  | inl passes ↦
-      let kept = ap (λ b. if b then u ∷ filter p us else filter p us) passes in
-      kept ∙ ap (λ vs. u ∷ vs) (all_pass p us (omega (arith, same, ap length kept)))
-  | inr fails ↦
-      let lost = ap (λ b. if b then u ∷ filter p us else filter p us) fails in
-      absurd (omega (arith, same, ap length lost, filter-shorter p us))
-]
+all_pass p (u ∷ us) same = search (arith, cases_Bool, (all_pass p us), filter-shorter)
 
 of_variables : (Q : ℕ → Type 0) (es : List Existential) → AllByRecursion Q (map variable es) →
     AllByRecursion (λ y. Q y.variable) es

@@ -52,8 +52,7 @@ universals_declared : (variables : ℕ) (done rest : List ℕ) →
     fold add_universal (prefix variables done []) rest ≡ prefix variables (done ++ rest) []
 universals_declared variables done [] = ap (λ us. prefix variables us []) (sym (append-nil done))
 universals_declared variables done (v ∷ rest) =
-    universals_declared variables (done ++ v ∷ []) rest ∙ ap (λ us. prefix variables us [])
-    (append_assoc done (v ∷ []) rest)
+    search (arith, (universals_declared variables (done ++ v ∷ []) rest), append_assoc)
 
 -- an existential whose set is of the formula's universals, in order of declaration
 pub record IsOrdered (universals : List ℕ) (y : Existential) : Type 0 where
@@ -62,16 +61,13 @@ pub record IsOrdered (universals : List ℕ) (y : Existential) : Type 0 where
 
 sees_given : (variables : ℕ) (us : List ℕ) (es : List Existential) (y : Existential) (sees : List ℕ) → y.sees ≡ sees →
     prefix variables us (es ++ record { variable = y.variable; sees = sees } ∷ []) ≡ prefix variables us (es ++ y ∷ [])
-sees_given variables us es y sees is =
-    ap (λ s. prefix variables us (es ++ record { variable = y.variable; sees = s } ∷ [])) (sym is)
+sees_given variables us es y sees is = search arith
 
 declares_one : (whole : Bool) (variables : ℕ) (us : List ℕ) (es : List Existential) (y : Existential) →
     (length y.sees == length us) ≡ whole → IsOrdered us y →
     declare (prefix variables us es) (part_by whole y) ≡ prefix variables us (es ++ y ∷ [])
-declares_one true variables us es y is ordered =
-    sees_given variables us es y us (ordered.whole (eqb-true (length y.sees) (length us) is))
-declares_one false variables us es y is ordered =
-    sees_given variables us es y (listed_universals us y.sees) ordered.listed
+declares_one true variables us es y is ordered = search (arith, sees_given, eqb-true)
+declares_one false variables us es y is ordered = search (arith, sees_given)
 
 abbrev pub AreOrdered : List ℕ → List Existential → Type 0
 AreOrdered us es = AllByRecursion (IsOrdered us) es
@@ -80,10 +76,7 @@ existentials_declared : (variables : ℕ) (us : List ℕ) (done rest : List Exis
     fold declare (prefix variables us done) (map (part_of us) rest) ≡ prefix variables us (done ++ rest)
 existentials_declared variables us done [] ordered = ap (prefix variables us) (sym (append-nil done))
 existentials_declared variables us done (y ∷ rest) ordered =
-    ap (λ f. fold declare f (map (part_of us) rest)) (declares_one
-    (length y.sees == length us) variables us done y refl ordered.0)
-    ∙ existentials_declared variables us (done ++ y ∷ []) rest ordered.1
-    ∙ ap (prefix variables us) (append_assoc done (y ∷ []) rest)
+    search (arith, declares_one, (existentials_declared variables us (done ++ y ∷ []) rest ordered.1), append_assoc)
 
 -- a universal of the formula
 abbrev pub IsKnown : ℕ → List ℕ → ℕ → Type 0
@@ -120,16 +113,13 @@ parts_lawful : (variables : ℕ) (us : List ℕ) (done rest : List Existential) 
     AreLawfulParts (prefix variables us done) (map (part_of us) rest)
 parts_lawful variables us done [] are pairs = tt
 parts_lawful variables us done (y ∷ rest) are pairs =
-    let whole = length y.sees == length us in
-    let new : IsNew (prefix variables us done) y.variable = record {
-      from_one = are.0.is_variable.0;
-      in_range = are.0.is_variable.1;
-      undeclared = no_earlier (us ++ map variable done) (map variable rest) y.variable pairs;
-    } in (
-      lawful_part whole variables us done y new are.0,
-      subst (λ f. AreLawfulParts f (map (part_of us) rest)) (sym
-          (declares_one whole variables us done y refl are.0.ordered))
-          (parts_lawful variables us (done ++ y ∷ []) rest are.1 (distinct_behind us done rest y pairs)),
+    search (
+      arith,
+      no_earlier,
+      lawful_part,
+      declares_one,
+      (parts_lawful variables us (done ++ y ∷ []) rest are.1),
+      distinct_behind,
     )
 
 -- all parts, from the empty formula on
@@ -160,7 +150,4 @@ pub all_declared : (variables : ℕ) (us : List ℕ) (es : List Existential) →
     AllByRecursion (IsDeclarable variables us) es →
     fold declare (empty_formula variables) (universal_parts us ++ map (part_of us) es) ≡ prefix variables us es
 all_declared variables [] es are = existentials_declared variables [] [] es (ordered_of variables [] es are)
-all_declared variables (x ∷ xs) es are =
-    let us = x ∷ xs in
-    ap (λ f. fold declare f (map (part_of us) es)) (universals_declared variables [] us)
-    ∙ existentials_declared variables us [] es (ordered_of variables us es are)
+all_declared variables (x ∷ xs) es are = search (arith, universals_declared, existentials_declared, ordered_of)

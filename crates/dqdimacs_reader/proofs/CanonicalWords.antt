@@ -16,7 +16,7 @@ use Rattle.dqdimacs_reader.specs.Canonical.{literal_text, numbers_line, header_t
 use Rattle.dqdimacs_reader.specs.Grammar.{PrefixPart, numbers, part_lexemes, clause_lexemes, literal_lexeme, header}
 use Rattle.dqdimacs_reader.specs.Lexeme.{lexeme_of}
 use Rattle.dqdimacs_reader.specs.declared.lexemes.Lexeme.{Lexeme}
-use Rattle.dqdimacs_reader.specs.declared.lexemes.Lexeme.TheVariants.{P as LetterP, Cnf, A, Natural}
+use Rattle.dqdimacs_reader.specs.declared.lexemes.Lexeme.TheVariants.{A, Natural}
 use Rattle.dqdimacs_reader.proofs.NumberWords.{natural_word, negative_word}
 use Rattle.dqdimacs_reader.proofs.Words.{text_of, words_from, words_are, IsOpen, word_space, word_line}
 
@@ -44,19 +44,11 @@ digits_line place (d ∷ ds) rest start some are =
 
 natural_space : (place : LinePlace) (n : ℕ) (rest : List ℕ) → IsOpen place → n < 10 ^ 18 →
     lexemes place (number_text n ++ rest) ≡ Natural n ∷ lexemes InLine rest
-natural_space place n rest start small =
-    let of = decimal_digits n small in
-    ap (lexemes place) (append_assoc (decimal n) (32 ∷ []) rest)
-    ∙ ap (map lexeme_of) (digits_space place (decimal n) rest start of.some of.are)
-    ∙ ap (λ lexeme. lexeme ∷ lexemes InLine rest) (natural_word n small)
+natural_space place n rest start small = search (arith, decimal_digits, append_assoc, digits_space, natural_word)
 
 natural_line : (n : ℕ) (rest : List ℕ) → n < 10 ^ 18 →
     lexemes InLine ((decimal n ++ 10 ∷ []) ++ rest) ≡ Natural n ∷ lexemes LineStart rest
-natural_line n rest small =
-    let of = decimal_digits n small in
-    ap (lexemes InLine) (append_assoc (decimal n) (10 ∷ []) rest)
-    ∙ ap (map lexeme_of) (digits_line InLine (decimal n) rest tt of.some of.are)
-    ∙ ap (λ lexeme. lexeme ∷ lexemes LineStart rest) (natural_word n small)
+natural_line n rest small = search (arith, decimal_digits, append_assoc, digits_line, natural_word)
 
 end_lexemes : (place : LinePlace) (rest : List ℕ) → IsOpen place →
     lexemes place (line_end ++ rest) ≡ Natural 0 ∷ lexemes LineStart rest
@@ -68,28 +60,17 @@ AreSmall ns = AllByRecursion (λ n. n < 10 ^ 18) ns
 numbers_lexemes : (ns rest : List ℕ) → AreSmall ns →
     lexemes InLine (flat_map number_text ns ++ (line_end ++ rest)) ≡ numbers ns ++ lexemes LineStart rest
 numbers_lexemes [] rest small = end_lexemes InLine rest tt
-numbers_lexemes (n ∷ ns) rest small =
-    ap (lexemes InLine) (append_assoc (number_text n) (flat_map number_text ns) (line_end ++ rest))
-    ∙ natural_space InLine n (flat_map number_text ns ++ (line_end ++ rest)) tt small.0
-    ∙ ap (λ more. Natural n ∷ more) (numbers_lexemes ns rest small.1)
+numbers_lexemes (n ∷ ns) rest small = search (arith, append_assoc, natural_space, (numbers_lexemes ns rest small.1))
 
 line_lexemes : (letter : ℕ) (ns rest : List ℕ) → kind_of letter ≡ Other → AreSmall ns →
     lexemes LineStart (numbers_line letter ns ++ rest) ≡ lexeme_of (letter ∷ []) ∷
     (numbers ns ++ lexemes LineStart rest)
-line_lexemes letter ns rest other small =
-    ap (λ bytes. lexemes LineStart (letter ∷ 32 ∷ bytes)) (append_assoc (flat_map number_text ns) line_end rest)
-    ∙ ap (map lexeme_of) (word_space LineStart letter [] (flat_map number_text ns ++ (line_end ++ rest)) tt other tt)
-    ∙ ap (λ more. lexeme_of (letter ∷ []) ∷ more) (numbers_lexemes ns rest small)
+line_lexemes letter ns rest other small = search (arith, append_assoc, word_space, numbers_lexemes)
 
 header_lexemes : (f : Dqbf) (rest : List ℕ) → f.variables < 10 ^ 18 → length f.matrix < 10 ^ 18 →
     lexemes LineStart (header_text f ++ rest) ≡ header f.variables (length f.matrix) ++ lexemes LineStart rest
 header_lexemes f rest few_variables few_clauses =
-    let behind = decimal (length f.matrix) ++ 10 ∷ [] in
-    ap (map lexeme_of) (word_space LineStart 112 [] (99 ∷ 110 ∷ 102 ∷ 32 ∷
-    ((number_text f.variables ++ behind) ++ rest)) tt refl tt)
-    ∙ ap (λ bytes. LetterP ∷ Cnf ∷ lexemes InLine bytes) (append_assoc (number_text f.variables) behind rest)
-    ∙ ap (λ more. LetterP ∷ Cnf ∷ more) (natural_space InLine f.variables (behind ++ rest) tt few_variables)
-    ∙ ap (λ more. LetterP ∷ Cnf ∷ Natural f.variables ∷ more) (natural_line (length f.matrix) rest few_clauses)
+    search (arith, word_space, append_assoc, natural_space, natural_line)
 
 -- a literal's number
 abbrev pub IsNumbered : Literal → Type 0
@@ -117,10 +98,7 @@ clause_lexemes_of place (l ∷ ls) rest start are =
 clauses_lexemes : (clauses : List (List Literal)) → AllByRecursion (AllByRecursion IsNumbered) clauses →
     lexemes LineStart (flat_map clause_text clauses) ≡ flat_map clause_lexemes clauses
 clauses_lexemes [] are = refl
-clauses_lexemes (ls ∷ clauses) are =
-    ap (lexemes LineStart) (append_assoc (flat_map literal_text ls) line_end (flat_map clause_text clauses))
-    ∙ clause_lexemes_of LineStart ls (flat_map clause_text clauses) tt are.0
-    ∙ ap (λ more. clause_lexemes ls ++ more) (clauses_lexemes clauses are.1)
+clauses_lexemes (ls ∷ clauses) are = search (arith, append_assoc, clause_lexemes_of, (clauses_lexemes clauses are.1))
 
 -- the part of an existential
 abbrev pub part_by : Bool → Existential → PrefixPart
@@ -146,12 +124,7 @@ existentials_lexemes : (universals : List ℕ) (es : List Existential) (rest : L
     ≡ flat_map part_lexemes (map (part_of universals) es) ++ lexemes LineStart rest
 existentials_lexemes universals [] rest are = refl
 existentials_lexemes universals (y ∷ es) rest are =
-    let more = flat_map (existential_text universals) es in
-    ap (lexemes LineStart) (append_assoc (existential_text universals y) more rest)
-    ∙ existential_lexemes (length y.sees == length universals) y (more ++ rest) are.0
-    ∙ ap (λ behind. part_lexemes (part_of universals y) ++ behind) (existentials_lexemes universals es rest are.1)
-    ∙ sym (append_assoc (part_lexemes (part_of universals y)) (flat_map part_lexemes (map (part_of universals) es))
-    (lexemes LineStart rest))
+    search (arith, append_assoc, existential_lexemes, (existentials_lexemes universals es rest are.1))
 
 -- the parts of a formula's canonical text
 abbrev pub universal_parts : List ℕ → List PrefixPart

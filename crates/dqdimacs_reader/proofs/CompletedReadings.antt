@@ -1,24 +1,21 @@
 -- From each state, the lexemes to come spell parts and constraints that complete the reading.
 use Rattle.std.proofs.Common.{◌≡◌, ◌≢◌, ℕ, ◌+◌, ◌≤◌, ◌==◌, nat_lt, Bool, true, false, not, cond, ◌⊎◌, inl, inr, List, [], ◌∷◌, ◌++◌, length, Option, None, Some, Ok, Err, refl, sym, ◌∙◌, ap, arith, append_assoc, length-append, subst}
-use Rattle.std.specs.List.{AllByRecursion, flat_map, fold, list_any}
+use Rattle.std.specs.List.{AllByRecursion, flat_map, fold}
 use Rattle.std.proofs.lemmas.Bool.{ltb-false, eqb-false, cases_eq, eq-eqb, ne_eqb, not-false, true≢false}
 use Rattle.std.proofs.lemmas.List.{append-nil}
 use Rattle.dq_lits.specs.Literal.{Literal, positive, negative, variable_of}
-use Rattle.dq_lits.specs.Formula.{Dqbf, is_universal}
+use Rattle.dq_lits.specs.Formula.{Dqbf}
 use Rattle.dq_text.specs.Token.{TextToken}
-use Rattle.dq_formula.specs.Prefix.{is_declared}
 use Rattle.dq_formula.specs.Xor.{xor_clauses}
 use Rattle.dqdimacs_reader.specs.Building.{add_universal, add_first, add_listed, add_clause, add_xor, add_literal, with_free}
 use Rattle.dqdimacs_reader.specs.Grammar.{PrefixPart, universals, existentials, dependent, Constraint, plain, xor, numbers, part_lexemes, literal_lexeme, clause_lexemes, constraint_lexemes, IsNew, AreNew, IsSeen, IsLawfulPart, declare, AreLawfulParts, InRange, IsXor, IsLawfulConstraint, AreLawfulConstraints, add_constraint}
-use Rattle.dqdimacs_reader.specs.Machine.{Reading, State, before_header, before_format, before_variables, before_clauses, at_part, in_universals, in_existentials, at_dependent, in_dependencies, in_clause, in_xor, max_clauses, fault_if, check_natural, check_entry, check_range, check_room, check_literal, check_declared, check_dependent, check_dependency, check_part_letter, check_xor_end, check_xor_literal, stands_on, with_formula, with_constraint, check, advance, at_start, inside_clause, inside_xor, natural_or, at_end}
-use Rattle.dq_text.specs.Number.{number_of, begins_with_minus}
+use Rattle.dqdimacs_reader.specs.Machine.{Reading, State, before_header, before_format, before_variables, before_clauses, at_part, in_universals, in_existentials, at_dependent, in_dependencies, in_clause, in_xor, max_clauses, fault_if, check_natural, check_entry, check_range, check_room, check_literal, check_declared, check_dependency, check_part_letter, check_xor_end, check_xor_literal, with_formula, with_constraint, check, advance, at_start, inside_clause, inside_xor, natural_or, at_end}
 use Rattle.dq_text.specs.declared.numbers.Number.{Number}
 use Rattle.dq_text.specs.declared.numbers.Number.TheVariants.{Int, NotANumber, TooBig as TooBigNumber}
-use Rattle.std.specs.Prelude.{pos, negsuc, codes}
-use Rattle.std.specs.Str.{bytes_eq}
+use Rattle.std.specs.Prelude.{pos, negsuc}
 use Rattle.dqdimacs_reader.specs.Lexeme.{lexeme_of, number_lexeme}
 use Rattle.dqdimacs_reader.specs.declared.faults.FormulaFault.{FormulaFault}
-use Rattle.dqdimacs_reader.specs.declared.faults.FormulaFault.TheVariants.{VarRange, DeclaredTwice, NotUniversal, EmptyD, TooManyClauses, TooFewClauses, PrefixLate, Limit, XorSize}
+use Rattle.dqdimacs_reader.specs.declared.faults.FormulaFault.TheVariants.{TooManyClauses, TooFewClauses, PrefixLate, Limit, XorSize}
 use Rattle.dqdimacs_reader.specs.declared.lexemes.Lexeme.{Lexeme}
 use Rattle.dqdimacs_reader.specs.declared.lexemes.Lexeme.TheVariants.{P, Cnf, A, D, E, X, Natural, Negative, Large, NegativeLarge, Other}
 use Rattle.dqdimacs_reader.proofs.SpelledIsRead.{declare-keeps, constraint_keeps_variables}
@@ -115,26 +112,16 @@ IsCounted (in_xor r literals) = IsDue r × IsXorLine literals
 
 in_range_is : (r : Reading) (v : ℕ) (rest : Option FormulaFault) → check_range r v rest ≡ None →
     (v ≤ r.formula.variables) × (rest ≡ None)
-in_range_is r v rest h =
-    let parts = no_fault_parts (nat_lt r.formula.variables v) VarRange rest h in
-    (ltb-false r.formula.variables v parts.0, parts.1)
+in_range_is r v rest h = search (arith, no_fault_parts, nat_lt, ltb-false)
 
 -- zero ends, other numbers go on
 ends_or_goes_on : (Q : State → Type 0) (v : ℕ) (ended more : State) → Q (cond (v == 0) ended more) →
     ((v ≡ 0) × Q ended) ⊎ ((v ≢ 0) × Q more)
-ends_or_goes_on Q v ended more h =
-    elim (cases_eq v 0) [
-      | inl zero ↦ inl (zero, subst (λ b. Q (cond b ended more)) (eq-eqb v 0 zero) h)
-      | inr other ↦ inr (other, subst (λ b. Q (cond b ended more)) (ne_eqb v 0 other) h)
-    ]
+ends_or_goes_on Q v ended more h = search (arith, cases_eq, eq-eqb, ne_eqb)
 
 either_state : (Q : State → Type 0) (v : ℕ) (ended more : State) → (v ≡ 0 → Q ended) → (v ≢ 0 → Q more) →
     Q (cond (v == 0) ended more)
-either_state Q v ended more here there =
-    elim (cases_eq v 0) [
-      | inl zero ↦ subst (λ b. Q (cond b ended more)) (sym (eq-eqb v 0 zero)) (here zero)
-      | inr other ↦ subst (λ b. Q (cond b ended more)) (sym (ne_eqb v 0 other)) (there other)
-    ]
+either_state Q v ended more here there = search (arith, cases_eq, eq-eqb, ne_eqb)
 
 has_room : (r : Reading) (more : ℕ) → check_room r more ≡ None → length r.formula.matrix + more ≤ max_clauses
 has_room r more passed =
@@ -150,26 +137,12 @@ at_more v here there other passed = ap (λ b. cond b here there) (sym (ne_eqb v 
 
 grown_line : (r : Reading) (literals : List Literal) (v : ℕ) (l : Literal) → variable_of l ≡ v → IsXorLine literals →
     Goes r literals v → IsXorLine (literals ++ l ∷ [])
-grown_line r literals v l on line g = record {
-  few = omega (arith, g.room, length-append literals (l ∷ []));
-  apart = stays_apart literals l line.apart (subst (λ w. list_any (stands_on w) literals ≡ false) (sym on) g.none);
-}
+grown_line r literals v l on line g = search (arith, length-append, stays_apart)
 
 counted_end : (r : Reading) (clause : List Literal) (v : ℕ) (l : Literal) → IsDue r → check_literal r v ≡ None →
     IsCounted (cond (v == 0) (at_part (with_constraint r (add_clause r.formula clause)))
     (in_clause r (add_literal clause l)))
-counted_end r clause v l is passed =
-    either_state IsCounted v (at_part (with_constraint r (add_clause r.formula clause)))
-    (in_clause r (add_literal clause l))
-    (λ zero. record {
-      counted = omega (arith, is.counted);
-      few = omega (
-        arith,
-        has_room r 1 (at_zero v (check_room r 1) (check_range r v None) zero passed),
-        length-append r.formula.matrix (clause ∷ []),
-      );
-    })
-    (λ other. is)
+counted_end r clause v l is passed = search (arith, either_state, length-append)
 
 counted_xor_end : (r : Reading) (literals : List Literal) (v : ℕ) (l : Literal) → variable_of l ≡ v → IsDue r →
     IsXorLine literals →
@@ -205,10 +178,6 @@ is_due r rest within passed =
       ];
       few = within.few;
     }
-
-choose_state : (Q : State → Type 0) (b : Bool) (s t : State) → Q s → Q t → Q (cond b s t)
-choose_state Q true s t here there = here
-choose_state Q false s t here there = there
 
 natural_or_is : (Q : State → Type 0) (other : State) (l : Lexeme) (next : ℕ → State) → Q other →
     ((n : ℕ) → Q (next n)) → Q (natural_or other l next)
@@ -276,16 +245,12 @@ counted_step : (s : State) (l : Lexeme) → IsCounted s → check s l ≡ None �
 counted_step before_header l counted passed = tt
 counted_step before_format l counted passed = tt
 counted_step before_variables l counted passed = natural_or_is IsCounted before_variables l before_clauses tt (λ n. tt)
-counted_step (before_clauses v) l counted passed = natural_or_is IsCounted (before_clauses v) l _ tt
-    (λ n. record { counted = omega arith; few = omega arith })
+counted_step (before_clauses v) l counted passed = search (arith, natural_or_is)
 counted_step (at_part r) l counted passed = counted_part r l counted passed
-counted_step (in_universals r) l counted passed = natural_or_is IsCounted (in_universals r) l _ counted
-    (λ n. choose_state IsCounted (n == 0) _ _ counted counted)
-counted_step (in_existentials r) l counted passed = natural_or_is IsCounted (in_existentials r) l _ counted
-    (λ n. choose_state IsCounted (n == 0) _ _ counted counted)
+counted_step (in_universals r) l counted passed = search (arith, natural_or_is)
+counted_step (in_existentials r) l counted passed = search (arith, natural_or_is)
 counted_step (at_dependent r) l counted passed = natural_or_is IsCounted (at_dependent r) l _ counted (λ n. counted)
-counted_step (in_dependencies r y xs) l counted passed = natural_or_is IsCounted (in_dependencies r y xs) l _ counted
-    (λ n. choose_state IsCounted (n == 0) _ _ counted counted)
+counted_step (in_dependencies r y xs) l counted passed = search (arith, natural_or_is)
 counted_step (in_clause r clause) l counted passed = counted_clause r clause l counted passed
 counted_step (in_xor r literals) l counted passed = counted_xor r literals l counted.0 counted.1 passed
 
@@ -323,49 +288,18 @@ list_step : (new : List ℕ → Type 0) (then_reading : List ℕ → Reading) (v
     (rest_new : List ℕ → Type 0) →
     ((vs : List ℕ) → rest_new vs → new (v ∷ vs)) →
     CompletesList rest_new (λ vs. then_reading (v ∷ vs)) ls f → CompletesList new then_reading (Natural v ∷ ls) f
-list_step new then_reading v ls f rest_new grows c = record {
-  vs = v ∷ c.vs;
-  rest = c.rest;
-  spelling = ap (λ xs. Natural v ∷ xs) c.spelling;
-  lawful = grows c.vs c.lawful;
-  completed = c.completed;
-}
+list_step new then_reading v ls f rest_new grows c = search arith
 
 list_end : (new : List ℕ → Type 0) (then_reading : List ℕ → Reading) (v : ℕ) (ls : List Lexeme) (f : Dqbf) → v ≡ 0 →
     new [] →
     Completes (then_reading []) ls f → CompletesList new then_reading (Natural v ∷ ls) f
-list_end new then_reading v ls f zero lawful c = record {
-  vs = [];
-  rest = ls;
-  spelling = ap (λ n. Natural n ∷ ls) zero;
-  lawful = lawful;
-  completed = c;
-}
+list_end new then_reading v ls f zero lawful c = search arith
 
 declared_is : (r : Reading) (v : ℕ) → v ≢ 0 → check_declared r v ≡ None → IsNew r.formula v
-declared_is r v more passed =
-    let rest = fault_if (is_declared r.formula v) DeclaredTwice None in
-    let behind : check_range r v rest ≡ None = ap (λ b. cond b None (check_range r v rest)) (sym (ne_eqb v 0 more))
-    ∙ passed in
-    let range = in_range_is r v rest behind in
-    record {
-      from_one = omega arith;
-      in_range = range.0;
-      undeclared =
-          (no_fault_parts (is_declared r.formula v) DeclaredTwice None range.1).0;
-    }
+declared_is r v more passed = search (arith, ne_eqb, in_range_is, no_fault_parts)
 
 seen_is : (r : Reading) (x : ℕ) → x ≢ 0 → check_dependency r x ≡ None → IsSeen r.formula x
-seen_is r x more passed =
-    let rest = fault_if (not (is_universal r.formula x)) NotUniversal None in
-    let behind : check_range r x rest ≡ None = ap (λ b. cond b None (check_range r x rest)) (sym (ne_eqb x 0 more))
-    ∙ passed in
-    let range = in_range_is r x rest behind in (
-      omega arith,
-      range.0,
-      not-false (is_universal r.formula x)
-          (no_fault_parts (not (is_universal r.formula x)) NotUniversal None range.1).0,
-    )
+seen_is r x more passed = search (arith, ne_eqb, in_range_is, not-false, no_fault_parts)
 
 universals_step : (r : Reading) (l : Lexeme) (ls : List Lexeme) (f : Dqbf) → check (in_universals r) l ≡ None →
     CompletesState (advance (in_universals r) l) ls f → CompletesState (in_universals r) (l ∷ ls) f
@@ -406,49 +340,11 @@ dependencies_step : (r : Reading) (y : ℕ) (before : List ℕ) (l : Lexeme) (ls
     CompletesState (advance (in_dependencies r y before) l) ls f →
     CompletesState (in_dependencies r y before) (l ∷ ls) f
 dependencies_step r y before l ls f passed next =
-    let Q : State → Type 0 = λ s. CompletesState s ls f in
-    let entry = entry_is l (check_dependency r) passed in
-    let x = entry.0 in
-    let New : List ℕ → Type 0 = AllByRecursion (IsSeen r.formula) in
-    let then_reading : List ℕ → Reading = λ xs. with_formula r (add_listed r.formula y (before ++ xs)) in
-    let ended = at_part (with_formula r (add_listed r.formula y before)) in
-    let more = in_dependencies r y (before ++ x ∷ []) in
-    let behind = subst (λ k. Q (advance (in_dependencies r y before) k)) entry.1 next in
-    subst (λ k. CompletesList New then_reading (k ∷ ls) f) (sym entry.1)
-    (elim (ends_or_goes_on Q x ended more behind) [
-      | inl (zero, c) ↦ list_end New then_reading x ls f zero tt
-          (subst (λ zs. Completes (with_formula r (add_listed r.formula y zs)) ls f) (sym (append-nil before)) c)
-      | inr (other, c) ↦ record {
-        vs = x ∷ c.vs;
-        rest = c.rest;
-        spelling = ap (λ zs. Natural x ∷ zs) c.spelling;
-        lawful = (seen_is r x other entry.2, c.lawful);
-        completed = subst (λ zs. Completes (with_formula r (add_listed r.formula y zs)) c.rest f)
-            (append_assoc before (x ∷ []) c.vs) c.completed;
-      }
-    ])
+    search (arith, entry_is, ends_or_goes_on, list_end, append-nil, seen_is, append_assoc)
 
 dependent_step : (r : Reading) (l : Lexeme) (ls : List Lexeme) (f : Dqbf) → check (at_dependent r) l ≡ None →
     CompletesState (advance (at_dependent r) l) ls f → CompletesState (at_dependent r) (l ∷ ls) f
-dependent_step r l ls f passed next =
-    let entry = entry_is l (check_dependent r) passed in
-    let y = entry.0 in
-    let declared = fault_if (is_declared r.formula y) DeclaredTwice None in
-    let zero = no_fault_parts (y == 0) EmptyD (check_range r y declared) entry.2 in
-    let range = in_range_is r y declared zero.1 in
-    let more = eqb-false y 0 zero.0 in
-    record {
-      y = y;
-      rest = ls;
-      spelling = ap (λ k. k ∷ ls) entry.1;
-      new = record {
-        from_one = omega arith;
-        in_range = range.0;
-        undeclared =
-            (no_fault_parts (is_declared r.formula y) DeclaredTwice None range.1).0;
-      };
-      completed = subst (λ k. CompletesState (advance (at_dependent r) k) ls f) entry.1 next;
-    }
+dependent_step r l ls f passed next = search (arith, entry_is, no_fault_parts, in_range_is, eqb-false)
 
 -- a literal or the end of a clause
 literal_step : (r : Reading) (clause : List Literal) (v : ℕ) (q : Literal) (ls : List Lexeme) (f : Dqbf) →
@@ -647,12 +543,8 @@ part_step r E ls f is passed next =
     subst (λ zs. Completes r (E ∷ zs) f) (sym next.spelling)
     (part_completes (existentials next.vs) r next.rest f (letter_first r passed) next.lawful next.completed)
 part_step r X ls f is passed next = xor_completes r ls f next
-part_step r (Natural v) ls f is passed next =
-    clause_completes r (Natural v ∷ ls) f (clause_step r [] (Natural v) ls f is
-    (no_fault_parts (r.constraints == r.clauses) TooManyClauses (check_literal r v) passed).1 next)
-part_step r (Negative v) ls f is passed next =
-    clause_completes r (Negative v ∷ ls) f (clause_step r [] (Negative v) ls f is
-    (no_fault_parts (r.constraints == r.clauses) TooManyClauses (check_literal r v) passed).1 next)
+part_step r (Natural v) ls f is passed next = search (arith, clause_completes, clause_step, no_fault_parts)
+part_step r (Negative v) ls f is passed next = search (arith, clause_completes, clause_step, no_fault_parts)
 part_step r Large ls f is passed next = cc
 part_step r NegativeLarge ls f is passed next = cc
 part_step r Other ls f is passed next = cc
@@ -721,13 +613,7 @@ number_is_lexeme minus (Int (pos n)) = tt
 number_is_lexeme minus (Int (negsuc n)) = λ zero. absurd (omega arith)
 
 is_lexeme : (text : List ℕ) → IsLexeme (lexeme_of text)
-is_lexeme text =
-    choose_lexeme (bytes_eq text (codes "p")) P _ tt
-    (choose_lexeme (bytes_eq text (codes "cnf")) Cnf _ tt
-    (choose_lexeme (bytes_eq text (codes "a")) A _ tt
-    (choose_lexeme (bytes_eq text (codes "d")) D _ tt
-    (choose_lexeme (bytes_eq text (codes "e")) E _ tt
-    (choose_lexeme (bytes_eq text (codes "x")) X _ tt (number_is_lexeme (begins_with_minus text) (number_of text)))))))
+is_lexeme text = search (arith, choose_lexeme, number_is_lexeme)
 
 pub are_lexemes : (tokens : List TextToken) → AllByRecursion IsLexeme (lexemes_of tokens)
 are_lexemes [] = tt

@@ -1,5 +1,5 @@
 -- A literal's key tells it from the others.
-use Rattle.std.proofs.Common.{◌≡◌, ℕ, Result, Ok, Err, IfOk, OnOk, ◌+◌, ◌*◌, ◌==◌, Bool, true, false, not, cond, ◌||◌, inl, inr, List, [], ◌∷◌, ◌++◌, map, refl, sym, ◌∙◌, ap, arith}
+use Rattle.std.proofs.Common.{◌≡◌, ℕ, Result, Ok, Err, IfOk, OnOk, ◌+◌, ◌*◌, ◌==◌, Bool, true, false, not, cond, ◌||◌, List, [], ◌∷◌, ◌++◌, map, refl, sym, ◌∙◌, ap, arith}
 use Rattle.std.specs.List.{list_any}
 use Rattle.std.proofs.lemmas.Bool.{false≢true, cases_eq, ne_eqb}
 use Rattle.list_laws.proofs.Truths.{last, or_assoc, same_test}
@@ -17,9 +17,7 @@ key_same (negative v) (negative w) = same_test (2 * v + 1) (2 * w + 1) w v (λ e
 keys_tell : (l : Literal) (literals : List Literal) → list_any (λ k. k == literal_key l) (map literal_key literals)
     ≡ list_any (same_literal l) literals
 keys_tell l [] = refl
-keys_tell l (k ∷ literals) =
-    ap (λ b. b || list_any (λ j. j == literal_key l) (map literal_key literals)) (key_same k l)
-    ∙ ap (λ b. same_literal l k || b) (keys_tell l literals)
+keys_tell l (k ∷ literals) = search (arith, key_same, (keys_tell l literals))
 
 one_more : (l : Literal) (literals : List Literal) (n : ℕ)
     → has_number (map literal_key (literals ++ l ∷ [])) n ≡ (has_number (map literal_key literals) n ||
@@ -31,17 +29,7 @@ one_more l (k ∷ literals) n =
 
 none_more : (l : Literal) (literals : List Literal) (n : ℕ) → list_any (same_literal l) literals ≡ true
     → has_number (map literal_key literals) n ≡ (has_number (map literal_key literals) n || (literal_key l == n))
-none_more l literals n there =
-    elim (cases_eq (literal_key l) n) [
-      | inl same ↦ held (has_number (map literal_key literals) n) (literal_key l == n)
-          (ap (has_number (map literal_key literals)) (sym same) ∙ keys_tell l literals ∙ there)
-      | inr other ↦ sym (last (has_number (map literal_key literals) n))
-          ∙ ap (λ b. has_number (map literal_key literals) n || b) (sym (ne_eqb (literal_key l) n other))
-    ]
-  where
-    held : (a b : Bool) → a ≡ true → a ≡ (a || b)
-    held true b h = refl
-    held false b h = absurd (false≢true h)
+none_more l literals n there = search (arith, cases_eq, keys_tell, ne_eqb, false≢true)
 
 -- a literal is new where its key is
 new_key : (l : Literal) (literals : List Literal) (keys : List ℕ) → AreKeysOf literals keys

@@ -1,11 +1,11 @@
 -- What the words of a written number are to the grammar.
-use Rattle.std.proofs.Common.{◌≡◌, ◌≢◌, ◌==◌, ℕ, ℤ, ◌^◌, ◌<◌, Bool, true, false, not, ◌&&◌, if◌then◌else◌, List, [], ◌∷◌, length, suc, pos, negsuc, nat_lt, refl, inl, inr, ◌∙◌, ap, arith}
+use Rattle.std.proofs.Common.{◌≡◌, ◌≢◌, ◌==◌, ℕ, ℤ, ◌^◌, ◌<◌, Bool, true, false, ◌&&◌, if◌then◌else◌, List, [], ◌∷◌, length, suc, pos, negsuc, nat_lt, refl, ◌∙◌, ap, arith}
 use Rattle.std.specs.Fmt.{decimal}
 use Rattle.std.specs.Str.{bytes_eq}
 use Rattle.std.proofs.lemmas.Bool.{cases_Bool, eqb-true, ne_eqb}
 use Rattle.dq_text.proofs.Numerals.{AreDigits, tells, decimal_digits, natural_is_read, negative_is_read}
-use Rattle.dq_text.specs.Number.{are_digits, decimal_value, unsigned_of, negative_of, number_of}
-use Rattle.dq_text.specs.declared.numbers.Number.TheVariants.{Int, NotANumber, TooBig}
+use Rattle.dq_text.specs.Number.{are_digits, number_of}
+use Rattle.dq_text.specs.declared.numbers.Number.TheVariants.{Int, NotANumber}
 use Rattle.dqdimacs_reader.specs.Lexeme.{word_or, lexeme_of, lexeme_of_int, number_lexeme}
 use Rattle.dqdimacs_reader.specs.declared.lexemes.Lexeme.{Lexeme}
 use Rattle.dqdimacs_reader.specs.declared.lexemes.Lexeme.TheVariants.{P as LetterP, Cnf, A, D, E, X, Natural, Negative}
@@ -20,11 +20,7 @@ behind_letters p c a d e x rest = if p then LetterP else if c then Cnf else if a
 
 pub no_letter : (p c a d e x : Bool) (rest : Lexeme) → p ≡ false → c ≡ false → a ≡ false → d ≡ false → e ≡ false →
     x ≡ false → behind_letters p c a d e x rest ≡ rest
-no_letter p c a d e x rest hp hc ha hd he hx =
-    ap (λ b. behind_letters b c a d e x rest) hp ∙ ap (λ b. behind_letters false b a d e x rest) hc
-    ∙ ap (λ b. behind_letters false false b d e x rest) ha ∙ ap (λ b. behind_letters false false false b e x rest) hd
-    ∙ ap (λ b. behind_letters false false false false b x rest) he ∙ ap
-    (λ b. behind_letters false false false false false b rest) hx
+no_letter p c a d e x rest hp hc ha hd he hx = search arith
 
 pub no_word : (d : ℕ) (ds : List ℕ) (rest : Lexeme) → d < 97 → word_or (d ∷ ds) rest ≡ rest
 no_word d ds rest small =
@@ -41,19 +37,14 @@ number_first d ds small = no_word d ds (number_lexeme (d == 45) (number_of (d �
 digits_lexeme : (ds : List ℕ) (n : ℕ) → 0 < length ds → AreDigits ds → number_of ds ≡ Int (pos n) →
     lexeme_of ds ≡ Natural n
 digits_lexeme [] n some are is = absurd (omega (arith, some))
-digits_lexeme (d ∷ ds) n some are is =
-    let range = tells.parts d ds are in
-    number_first d ds (omega (arith, range.0.1))
-    ∙ ap (λ minus. number_lexeme minus (number_of (d ∷ ds))) (ne_eqb d 45 (λ h. omega (arith, range.0.0)))
-    ∙ ap (number_lexeme false) is
+digits_lexeme (d ∷ ds) n some are is = search (arith, tells, number_first, ne_eqb)
 
 pub natural_word : (n : ℕ) → n < 10 ^ 18 → lexeme_of (decimal n) ≡ Natural n
 natural_word n small = let of = decimal_digits n small in digits_lexeme (decimal n) n of.some of.are
     (natural_is_read n small)
 
 pub negative_word : (n : ℕ) → suc n < 10 ^ 18 → lexeme_of (45 ∷ decimal (suc n)) ≡ Negative (suc n)
-negative_word n small = number_first 45 (decimal (suc n)) (omega arith) ∙ ap (number_lexeme true)
-    (negative_is_read n small)
+negative_word n small = search (arith, number_first, negative_is_read)
 
 int_by : (minus : Bool) (n : ℤ) → number_lexeme minus (Int n) ≡ lexeme_of_int n
 int_by minus (pos n) = refl
@@ -61,32 +52,15 @@ int_by minus (negsuc n) = refl
 
 not_digits : (d : ℕ) (ds : List ℕ) → (d == 45) ≡ false → are_digits (d ∷ ds) ≡ false →
     number_of (d ∷ ds) ≡ NotANumber
-not_digits d ds plain none =
-    ap (λ b. if b then negative_of ds else unsigned_of (d ∷ ds)) plain
-    ∙ ap (λ b. if not b then NotANumber else if nat_lt (decimal_value (d ∷ ds)) (10 ^ 18)
-    then Int (pos (decimal_value (d ∷ ds))) else TooBig) none
+not_digits d ds plain none = search (arith, nat_lt, pos)
 
 digits_small : (d : ℕ) (ds : List ℕ) → are_digits (d ∷ ds) ≡ true → d < 97
 digits_small d ds are = let range = tells.parts d ds are in omega (arith, range.0.1)
 
 number_small : (d : ℕ) (ds : List ℕ) (n : ℤ) → number_of (d ∷ ds) ≡ Int n → d < 97
-number_small d ds n is =
-    elim (cases_Bool (d == 45)) [
-      | inl minus ↦ let e = eqb-true d 45 minus in omega (arith, e)
-      | inr plain ↦
-          elim (cases_Bool (are_digits (d ∷ ds))) [
-            | inl are ↦ digits_small d ds are
-            | inr none ↦ absurd (no_number d ds n is (not_digits d ds plain none))
-          ]
-    ]
-  where
-    no_number : (d : ℕ) (ds : List ℕ) (n : ℤ) → number_of (d ∷ ds) ≡ Int n → number_of (d ∷ ds) ≡ NotANumber → ⊥
-    no_number d ds n is none = cc
+number_small d ds n is = search (arith, cases_Bool, eqb-true, digits_small, not_digits)
 
 pub int_word : (text : List ℕ) (n : ℤ) → number_of text ≡ Int n → lexeme_of text ≡ lexeme_of_int n
-int_word [] n is = absurd (nothing n is)
-  where
-    nothing : (n : ℤ) → NotANumber ≡ Int n → ⊥
-    nothing n is = cc
+int_word [] n is = search arith
 int_word (d ∷ ds) n is =
     number_first d ds (number_small d ds n is) ∙ ap (number_lexeme (d == 45)) is ∙ int_by (d == 45) n

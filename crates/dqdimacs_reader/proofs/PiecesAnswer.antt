@@ -1,14 +1,13 @@
 -- What is read of a text that comes in pieces.
-use Rattle.std.proofs.Common.{◌≡◌, ℕ, ◌==◌, ◌&&◌, Bool, true, false, List, [], ◌∷◌, map, codes, Result, refl, sym, ◌∙◌, ap}
-use Rattle.std.specs.Str.{bytes_eq}
+use Rattle.std.proofs.Common.{◌≡◌, ℕ, ◌&&◌, Bool, true, false, List, [], ◌∷◌, map, codes, Result, refl, sym, arith}
 use Rattle.list_laws.proofs.Truths.{and-false}
 use Rattle.dq_lits.specs.Formula.{Dqbf}
 use Rattle.dq_text.specs.Number.{begins_with_minus, number_of}
 use Rattle.dq_text.specs.Pieces.{SummarizedToken, summarized}
 use Rattle.dq_text.specs.Summary.{head_of, summary_of, summary_number}
 use Rattle.dq_text.specs.Token.{TextToken, tokens_of, last_line_of}
-use Rattle.dqdimacs_reader.specs.Lexeme.{number_lexeme, word_or, lexeme_of, head_or, summary_lexeme}
-use Rattle.dqdimacs_reader.specs.Machine.{State, before_header, check, advance, unless_fault, read_from, reading}
+use Rattle.dqdimacs_reader.specs.Lexeme.{word_or, lexeme_of, head_or, summary_lexeme}
+use Rattle.dqdimacs_reader.specs.Machine.{State, before_header, read_from, reading}
 use Rattle.dqdimacs_reader.specs.Progress.{Progress, goes_on, has_stopped, has_ended, may_answer, read_summaries}
 use Rattle.dqdimacs_reader.specs.declared.faults.ReadStop.{ReadStop}
 use Rattle.dqdimacs_reader.specs.declared.lexemes.Lexeme.{Lexeme}
@@ -20,12 +19,7 @@ not_cnf true false r = refl
 not_cnf false q r = refl
 
 longer_word : (a b c d : ℕ) (bytes : List ℕ) (rest : Lexeme) → word_or (a ∷ b ∷ c ∷ d ∷ bytes) rest ≡ rest
-longer_word a b c d bytes rest =
-    let text = a ∷ b ∷ c ∷ d ∷ bytes in
-    no_letter (bytes_eq text (codes "p")) (bytes_eq text (codes "cnf")) (bytes_eq text (codes "a"))
-    (bytes_eq text (codes "d")) (bytes_eq text (codes "e")) (bytes_eq text (codes "x")) rest
-    (and-false (a == 112)) (not_cnf (a == 99) (b == 110) (c == 102)) (and-false (a == 97)) (and-false (a == 100)) (and-false (a == 101))
-    (and-false (a == 120))
+longer_word a b c d bytes rest = search (arith, no_letter, codes, and-false, not_cnf)
 
 head_word : (text : List ℕ) (rest : Lexeme) → head_or (head_of text) rest ≡ word_or text rest
 head_word [] rest = refl
@@ -41,30 +35,18 @@ pub record Tells : Type 0 where
   pub number : (text : List ℕ) → summary_number (summary_of text) ≡ number_of text
 
 pub summary_is : Tells → (text : List ℕ) → summary_lexeme (summary_of text) ≡ lexeme_of text
-summary_is tells text =
-    let s = summary_of text in
-    ap (λ h. head_or h (number_lexeme s.minus (summary_number s))) (tells.head text)
-    ∙ ap (λ m. head_or (head_of text) (number_lexeme m (summary_number s))) (tells.minus text)
-    ∙ ap (λ n. head_or (head_of text) (number_lexeme (begins_with_minus text) n)) (tells.number text)
-    ∙ head_word text (number_lexeme (begins_with_minus text) (number_of text))
+summary_is tells text = search (arith, head_word)
 
 read_tokens : Tells → (tokens : List TextToken) (state : State) (last_line : ℕ) →
     read_summaries state (map summarized tokens) last_line ≡ read_from state tokens last_line
 read_tokens tells [] state last_line = refl
-read_tokens tells (token ∷ tokens) state last_line =
-    ap (λ l. unless_fault (check state l) token.line (read_summaries (advance state l)
-    (map summarized tokens) last_line)) (summary_is tells token.text)
-    ∙ ap (unless_fault (check state (lexeme_of token.text)) token.line)
-    (read_tokens tells tokens (advance state (lexeme_of token.text)) last_line)
+read_tokens tells (token ∷ tokens) state last_line = search (arith, summary_is, (read_tokens tells tokens))
 
 -- what is read of a text's summarized tokens is read of the text
 pub whole_is_read : Tells → (text : List ℕ) (tokens : List SummarizedToken) (last_line : ℕ) →
     tokens ≡ map summarized (tokens_of text) → last_line ≡ last_line_of text →
     read_summaries before_header tokens last_line ≡ reading text
-whole_is_read tells text tokens last_line same ends =
-    ap (λ ts. read_summaries before_header ts last_line) same
-    ∙ ap (read_summaries before_header (map summarized (tokens_of text))) ends
-    ∙ read_tokens tells (tokens_of text) before_header (last_line_of text)
+whole_is_read tells text tokens last_line same ends = search (arith, read_tokens)
 
 -- once it has stopped, its answer rests on no token
 pub stays : (progress : Progress) → has_ended progress ≡ true →

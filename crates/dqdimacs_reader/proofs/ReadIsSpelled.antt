@@ -81,24 +81,13 @@ header_variables : (lexemes : List Lexeme) (f : Dqbf) → AllByRecursion IsLexem
     (v : ℕ) × (rest : List Lexeme) × (lexemes ≡ Natural v ∷ rest) × (v ≤ max_variables) × AllByRecursion IsLexeme rest ×
     (run (before_clauses v) rest ≡ Some f)
 header_variables [] f are h = cc
-header_variables (l ∷ ls) f are h =
-    let r = run_step before_variables l ls f h in
-    let n = natural_is l (check_limit max_variables) r.0 in (
-      n.0,
-      ls,
-      ap (λ k. k ∷ ls) n.1,
-      few max_variables n.0 n.2,
-      are.1,
-      ap (λ k. run (advance before_variables k) ls) (sym n.1) ∙ r.1,
-    )
+header_variables (l ∷ ls) f are h = search (arith, run_step, natural_is)
 
 header_format : (lexemes : List Lexeme) (f : Dqbf) → AllByRecursion IsLexeme lexemes →
     run before_format lexemes ≡ Some f →
     (rest : List Lexeme) × (lexemes ≡ Cnf ∷ rest) × AllByRecursion IsLexeme rest × (run before_variables rest ≡ Some f)
 header_format [] f are h = cc
-header_format (l ∷ ls) f are h =
-    let r = run_step before_format l ls f h in
-    (ls, ap (λ k. k ∷ ls) (cnf_is l (wanted_is (is_cnf l) r.0)), are.1, r.1)
+header_format (l ∷ ls) f are h = search (arith, run_step, cnf_is, wanted_is)
 
 header_word : (lexemes : List Lexeme) (f : Dqbf) → AllByRecursion IsLexeme lexemes →
     run before_header lexemes ≡ Some f →
@@ -130,8 +119,7 @@ header_completes lexemes f are h =
 pub constraints_keep_variables : (constraints : List Constraint) (g : Dqbf) →
     (fold add_constraint g constraints).variables ≡ g.variables
 constraints_keep_variables [] g = refl
-constraints_keep_variables (c ∷ cs) g = constraints_keep_variables cs (add_constraint g c)
-    ∙ constraint_keeps_variables g c
+constraints_keep_variables (c ∷ cs) g = search (arith, (constraints_keep_variables cs), constraint_keeps_variables)
 
 pub read_is_spelled : (text : List ℕ) (f : Dqbf) → reading text ≡ Ok f → SpellsFormula text f
 read_is_spelled text f h =

@@ -1,21 +1,20 @@
 -- What the grammar spells, the machine reads.
-use Rattle.std.proofs.Common.{◌≡◌, ℕ, ◌+◌, ◌<◌, ◌≤◌, ◌==◌, nat_lt, Bool, true, false, not, cond, List, [], ◌∷◌, ◌++◌, length, Option, None, Some, refl, sym, ◌∙◌, ap, subst, arith, append_assoc, length-append, Ok, Err}
+use Rattle.std.proofs.Common.{◌≡◌, ℕ, ◌+◌, ◌<◌, ◌≤◌, ◌==◌, nat_lt, Bool, true, false, not, cond, List, [], ◌∷◌, ◌++◌, length, Option, None, Some, refl, sym, ◌∙◌, ap, subst, arith, append_assoc, length-append, Ok}
 use Rattle.std.proofs.lemmas.List.{append-nil}
 use Rattle.std.specs.List.{AllByRecursion, flat_map, fold, list_any}
 use Rattle.std.proofs.lemmas.Bool.{le-ltb, lt-ltb, ne_eqb}
 use Rattle.dq_lits.specs.Literal.{Literal, positive, negative, variable_of}
-use Rattle.dq_lits.specs.Formula.{Dqbf, is_universal}
+use Rattle.dq_lits.specs.Formula.{Dqbf}
 use Rattle.dq_text.specs.Token.{tokens_of, last_line_of}
-use Rattle.dq_formula.specs.Prefix.{is_declared}
 use Rattle.dq_formula.specs.Xor.{xor_clauses}
 use Rattle.dqdimacs_reader.specs.Building.{empty_formula, add_universal, add_first, add_listed, add_clause, add_xor, add_literal, distinct, with_free}
 use Rattle.dqdimacs_reader.specs.Grammar.{PrefixPart, universals, existentials, dependent, Constraint, plain, xor, numbers, part_lexemes, literal_lexeme, clause_lexemes, constraint_lexemes, header, IsNew, AreNew, IsSeen, IsLawfulPart, declare, AreLawfulParts, InRange, IsXor, IsLawfulConstraint, AreLawfulConstraints, add_constraint, SpellsFormula}
 use Rattle.dqdimacs_reader.specs.Machine.{Reading, State, before_header, before_format, before_variables, before_clauses, check_limit, reading, at_part, in_universals, in_existentials, at_dependent, in_dependencies, in_clause, in_xor, max_variables, max_clauses, max_xor, fault_if, check_range, check_room, check_literal, check_declared, check_dependent, check_dependency, check_part_letter, check_xor_end, check_xor_literal, stands_on, with_formula, with_constraint, check, advance}
 use Rattle.dqdimacs_reader.specs.declared.faults.FormulaFault.{FormulaFault}
-use Rattle.dqdimacs_reader.specs.declared.faults.FormulaFault.TheVariants.{PrefixLate, TooFewClauses, VarRange, Limit, DeclaredTwice, NotUniversal, EmptyD, TooManyClauses, XorSize, XorRepeat}
+use Rattle.dqdimacs_reader.specs.declared.faults.FormulaFault.TheVariants.{PrefixLate, Limit, TooManyClauses}
 use Rattle.dqdimacs_reader.specs.declared.lexemes.Lexeme.{Lexeme}
-use Rattle.dqdimacs_reader.specs.declared.lexemes.Lexeme.TheVariants.{P, Cnf, A, D, E, X, Natural}
-use Rattle.dqdimacs_reader.proofs.Runs.{formula_or_none, run, run_pass, reading_from_run}
+use Rattle.dqdimacs_reader.specs.declared.lexemes.Lexeme.TheVariants.{P, Cnf, A, D, E, Natural}
+use Rattle.dqdimacs_reader.proofs.Runs.{run, run_pass, reading_from_run}
 use Rattle.dqdimacs_reader.proofs.XorLines.{AreApart, none_before}
 
 no_fault : (b : Bool) (name : FormulaFault) (rest : Option FormulaFault) → b ≡ false → fault_if b name rest ≡ rest
@@ -27,15 +26,10 @@ not_zero v low = ne_eqb v 0 (λ e. omega arith)
 
 in_range_passes : (r : Reading) (v : ℕ) (rest : Option FormulaFault) → v ≤ r.formula.variables →
     check_range r v rest ≡ rest
-in_range_passes r v rest high = no_fault (nat_lt r.formula.variables v) VarRange rest
-    (le-ltb r.formula.variables v high)
+in_range_passes r v rest high = search (arith, no_fault, nat_lt, le-ltb)
 
 new_passes : (r : Reading) (v : ℕ) → IsNew r.formula v → check_declared r v ≡ None
-new_passes r v new =
-    ap (λ b. cond b None (check_range r v (fault_if (is_declared r.formula v) DeclaredTwice None)))
-    (not_zero v new.from_one)
-    ∙ in_range_passes r v (fault_if (is_declared r.formula v) DeclaredTwice None) new.in_range
-    ∙ no_fault (is_declared r.formula v) DeclaredTwice None new.undeclared
+new_passes r v new = search (arith, in_range_passes, no_fault)
 
 goes_on_set : (v : ℕ) (ended more : State) → 1 ≤ v → cond (v == 0) ended more ≡ more
 goes_on_set v ended more low = ap (λ b. cond b ended more) (not_zero v low)
@@ -43,47 +37,33 @@ goes_on_set v ended more low = ap (λ b. cond b ended more) (not_zero v low)
 read_universals : (vs : List ℕ) (r : Reading) (rest : List Lexeme) → AreNew add_universal r.formula vs →
     run (in_universals r) (numbers vs ++ rest) ≡ run (at_part (with_formula r (fold add_universal r.formula vs))) rest
 read_universals [] r rest new = refl
-read_universals (v ∷ vs) r rest new =
-    let next = with_formula r (add_universal r.formula v) in
-    run_pass (in_universals r) (Natural v) (numbers vs ++ rest) (new_passes r v new.0)
-    ∙ ap (λ s. run s (numbers vs ++ rest)) (goes_on_set v (at_part r) (in_universals next) new.0.from_one)
-    ∙ read_universals vs next rest new.1
+read_universals (v ∷ vs) r rest new = search (arith, run_pass, new_passes, goes_on_set, (read_universals vs))
 
 read_existentials : (vs : List ℕ) (r : Reading) (rest : List Lexeme) → AreNew add_first r.formula vs →
     run (in_existentials r) (numbers vs ++ rest) ≡ run (at_part (with_formula r (fold add_first r.formula vs))) rest
 read_existentials [] r rest new = refl
-read_existentials (v ∷ vs) r rest new =
-    let next = with_formula r (add_first r.formula v) in
-    run_pass (in_existentials r) (Natural v) (numbers vs ++ rest) (new_passes r v new.0)
-    ∙ ap (λ s. run s (numbers vs ++ rest)) (goes_on_set v (at_part r) (in_existentials next) new.0.from_one)
-    ∙ read_existentials vs next rest new.1
+read_existentials (v ∷ vs) r rest new = search (arith, run_pass, new_passes, goes_on_set, (read_existentials vs))
 
 seen_passes : (r : Reading) (x : ℕ) → IsSeen r.formula x → check_dependency r x ≡ None
-seen_passes r x seen =
-    let rest = fault_if (not (is_universal r.formula x)) NotUniversal None in
-    ap (λ b. cond b None (check_range r x rest)) (not_zero x seen.0)
-    ∙ in_range_passes r x rest seen.1
-    ∙ ap (λ b. fault_if (not b) NotUniversal None) seen.2
+seen_passes r x seen = search (arith, in_range_passes)
 
 read_dependencies : (xs : List ℕ) (r : Reading) (y : ℕ) (before : List ℕ) (rest : List Lexeme) →
     AllByRecursion (IsSeen r.formula) xs →
     run (in_dependencies r y before) (numbers xs ++ rest) ≡ run
     (at_part (with_formula r (add_listed r.formula y (before ++ xs)))) rest
-read_dependencies [] r y before rest seen =
-    ap (λ zs. run (at_part (with_formula r (add_listed r.formula y zs))) rest) (sym (append-nil before))
+read_dependencies [] r y before rest seen = search (arith, append-nil)
 read_dependencies (x ∷ xs) r y before rest seen =
-    run_pass (in_dependencies r y before) (Natural x) (numbers xs ++ rest) (seen_passes r x seen.0)
-    ∙ ap (λ s. run s (numbers xs ++ rest)) (goes_on_set x (at_part (with_formula r (add_listed r.formula y before)))
-    (in_dependencies r y (before ++ x ∷ [])) seen.0.0)
-    ∙ read_dependencies xs r y (before ++ x ∷ []) rest seen.1
-    ∙ ap (λ zs. run (at_part (with_formula r (add_listed r.formula y zs))) rest) (append_assoc before (x ∷ []) xs)
+    search (
+      arith,
+      run_pass,
+      seen_passes,
+      goes_on_set,
+      (read_dependencies xs r y (before ++ x ∷ []) rest seen.1),
+      append_assoc,
+    )
 
 dependent_passes : (r : Reading) (y : ℕ) → IsNew r.formula y → check_dependent r y ≡ None
-dependent_passes r y new =
-    let declared = fault_if (is_declared r.formula y) DeclaredTwice None in
-    no_fault (y == 0) EmptyD (check_range r y declared) (not_zero y new.from_one)
-    ∙ in_range_passes r y declared new.in_range
-    ∙ no_fault (is_declared r.formula y) DeclaredTwice None new.undeclared
+dependent_passes r y new = search (arith, no_fault, in_range_passes)
 
 -- the prefix stands before all clauses and XOR lines
 letter_passes : (r : Reading) → r.constraints ≡ 0 → check_part_letter r ≡ None
@@ -108,10 +88,7 @@ pub record Keeps (f g : Dqbf) : Type 0 where
 keeps_fold : (add : Dqbf → ℕ → Dqbf) → ((f : Dqbf) (v : ℕ) → Keeps f (add f v)) → (vs : List ℕ) (f : Dqbf) →
     Keeps f (fold add f vs)
 keeps_fold add kept [] f = record { variables = refl; matrix = refl }
-keeps_fold add kept (v ∷ vs) f =
-    let here = kept f v in
-    let rest = keeps_fold add kept vs (add f v) in
-    record { variables = rest.variables ∙ here.variables; matrix = rest.matrix ∙ here.matrix }
+keeps_fold add kept (v ∷ vs) f = search (arith, (keeps_fold add kept vs (add f v)))
 
 pub declare-keeps : (part : PrefixPart) (f : Dqbf) → Keeps f (declare f part)
 declare-keeps (universals vs) f = keeps_fold add_universal (λ g v. record { variables = refl; matrix = refl }) vs f
@@ -129,8 +106,7 @@ read_parts (part ∷ parts) r rest none lawful =
     ∙ read_parts parts (with_formula r (declare r.formula part)) rest none lawful.1
 
 clause_literal_passes : (r : Reading) (v : ℕ) → 1 ≤ v → v ≤ r.formula.variables → check_literal r v ≡ None
-clause_literal_passes r v low high =
-    ap (λ b. cond b (check_room r 1) (check_range r v None)) (not_zero v low) ∙ in_range_passes r v None high
+clause_literal_passes r v low high = search (arith, in_range_passes)
 
 literal_passes : (r : Reading) (clause : List Literal) (l : Literal) → InRange r.formula.variables l →
     check (in_clause r clause) (literal_lexeme l) ≡ None
@@ -147,8 +123,7 @@ abbrev HasRoom : Reading → ℕ → Type 0
 HasRoom r more = length r.formula.matrix + more ≤ max_clauses
 
 room_passes : (r : Reading) (more : ℕ) → HasRoom r more → check_room r more ≡ None
-room_passes r more room = no_fault (nat_lt max_clauses (length r.formula.matrix + more)) Limit None
-    (le-ltb max_clauses (length r.formula.matrix + more) room)
+room_passes r more room = search (arith, no_fault, nat_lt, le-ltb)
 
 read_literals : (literals : List Literal) (r : Reading) (clause : List Literal) (rest : List Lexeme) → HasRoom r 1 →
     AllByRecursion (InRange r.formula.variables) literals →
@@ -156,15 +131,12 @@ read_literals : (literals : List Literal) (r : Reading) (clause : List Literal) 
     (at_part (with_constraint r (add_clause r.formula (fold add_literal clause literals)))) rest
 read_literals [] r clause rest room range = run_pass (in_clause r clause) (Natural 0) rest (room_passes r 1 room)
 read_literals (l ∷ ls) r clause rest room range =
-    run_pass (in_clause r clause) (literal_lexeme l) (clause_lexemes ls ++ rest) (literal_passes r clause l range.0)
-    ∙ ap (λ s. run s (clause_lexemes ls ++ rest)) (literal_goes_on r clause l range.0)
-    ∙ read_literals ls r (add_literal clause l) rest room range.1
+    search (arith, run_pass, literal_passes, literal_goes_on, (read_literals ls r))
 
 -- a clause or an XOR line is due
 due_passes : (r : Reading) (rest : Option FormulaFault) → r.constraints < r.clauses →
     fault_if (r.constraints == r.clauses) TooManyClauses rest ≡ rest
-due_passes r rest due = no_fault (r.constraints == r.clauses) TooManyClauses rest
-    (ne_eqb r.constraints r.clauses (λ e. omega arith))
+due_passes r rest due = search (arith, no_fault, ne_eqb)
 
 first_passes : (r : Reading) (l : Literal) → r.constraints < r.clauses → InRange r.formula.variables l →
     check (at_part r) (literal_lexeme l) ≡ None
@@ -180,24 +152,14 @@ read_clause : (literals : List Literal) (r : Reading) (rest : List Lexeme) → r
     AllByRecursion (InRange r.formula.variables) literals →
     run (at_part r) (clause_lexemes literals ++ rest) ≡ run (at_part
     (with_constraint r (add_clause r.formula (distinct literals)))) rest
-read_clause [] r rest due room range = run_pass (at_part r) (Natural 0) rest
-    (due_passes r (check_literal r 0) due ∙ room_passes r 1 room)
-read_clause (l ∷ ls) r rest due room range =
-    run_pass (at_part r) (literal_lexeme l) (clause_lexemes ls ++ rest) (first_passes r l due range.0)
-    ∙ ap (λ s. run s (clause_lexemes ls ++ rest)) (first_goes_on r l range.0)
-    ∙ read_literals ls r (add_literal [] l) rest room range.1
+read_clause [] r rest due room range = search (arith, run_pass, due_passes, room_passes)
+read_clause (l ∷ ls) r rest due room range = search (arith, run_pass, first_passes, first_goes_on, read_literals)
 
 -- inside an XOR line
 xor_number_passes : (r : Reading) (before : List Literal) (v : ℕ) → 1 ≤ v → v ≤ r.formula.variables →
     length before < max_xor →
     list_any (stands_on v) before ≡ false → cond (v == 0) (check_xor_end r before) (check_xor_literal r before v) ≡ None
-xor_number_passes r before v low high few none =
-    let repeat = fault_if (list_any (stands_on v) before) XorRepeat None in
-    let size = fault_if (not (nat_lt (length before) max_xor)) XorSize repeat in
-    ap (λ b. cond b (check_xor_end r before) (check_xor_literal r before v)) (not_zero v low)
-    ∙ in_range_passes r v size high
-    ∙ ap (λ b. fault_if (not b) XorSize repeat) (lt-ltb (length before) max_xor few)
-    ∙ no_fault (list_any (stands_on v) before) XorRepeat None none
+xor_number_passes r before v low high few none = search (arith, nat_lt, in_range_passes, lt-ltb, no_fault)
 
 xor_passes : (r : Reading) (before : List Literal) (l : Literal) → InRange r.formula.variables l →
     length before < max_xor →
@@ -212,20 +174,14 @@ xor_goes_on r before (negative v) range = goes_on_set v _ _ range.0
 
 xor_end_passes : (r : Reading) (literals : List Literal) → IsXor literals → HasRoom r (length (xor_clauses literals)) →
     check_xor_end r literals ≡ None
-xor_end_passes r literals is room =
-    no_fault (length literals == 0) XorSize (check_room r (length (xor_clauses literals)))
-    (ne_eqb (length literals) 0 (λ e. omega (arith, is.some)))
-    ∙ room_passes r (length (xor_clauses literals)) room
+xor_end_passes r literals is room = search (arith, no_fault, ne_eqb, room_passes)
 
 read_xor_literals : (literals : List Literal) (r : Reading) (before all : List Literal) (rest : List Lexeme) →
     before ++ literals ≡ all →
     IsXor all → HasRoom r (length (xor_clauses all)) → AllByRecursion (InRange r.formula.variables) literals →
     run (in_xor r before) (clause_lexemes literals ++ rest) ≡ run
     (at_part (with_constraint r (add_xor r.formula all))) rest
-read_xor_literals [] r before all rest whole is room range =
-    let same : before ≡ all = sym (append-nil before) ∙ whole in
-    run_pass (in_xor r before) (Natural 0) rest (ap (check_xor_end r) same ∙ xor_end_passes r all is room)
-    ∙ ap (λ ls. run (at_part (with_constraint r (add_xor r.formula ls))) rest) same
+read_xor_literals [] r before all rest whole is room range = search (arith, append-nil, run_pass, xor_end_passes)
 read_xor_literals (l ∷ ls) r before all rest whole is room range =
     let few : length before < max_xor = omega (arith, is.few, ap length whole, length-append before (l ∷ ls)) in
     let none = none_before before ls l (subst AreApart (sym whole) is.apart) in
@@ -251,29 +207,20 @@ constraint_keeps_variables f (xor literals) = refl
 matrix_grows : (constraints : List Constraint) (f : Dqbf) → length f.matrix ≤ length
     (fold add_constraint f constraints).matrix
 matrix_grows [] f = omega arith
-matrix_grows (c ∷ cs) f = omega (
-  arith,
-  matrix_grows cs (add_constraint f c),
-  ap length (with_clauses f c),
-  length-append f.matrix (clauses_of c),
-)
+matrix_grows (c ∷ cs) f = search (arith, (matrix_grows cs), length-append)
 
 read_constraint : (c : Constraint) (r : Reading) (rest : List Lexeme) → r.constraints < r.clauses →
     HasRoom r (length (clauses_of c)) → IsLawfulConstraint r.formula.variables c →
     run (at_part r) (constraint_lexemes c ++ rest) ≡ run (at_part (with_constraint r (add_constraint r.formula c))) rest
 read_constraint (plain literals) r rest due room lawful = read_clause literals r rest due room lawful
-read_constraint (xor literals) r rest due room lawful =
-    run_pass (at_part r) X (clause_lexemes literals ++ rest) (due_passes r None due)
-    ∙ read_xor_literals literals r [] literals rest refl lawful.1 room lawful.0
+read_constraint (xor literals) r rest due room lawful = search (arith, run_pass, due_passes, read_xor_literals)
 
 read_constraints : (constraints : List Constraint) (r : Reading) → r.constraints + length constraints ≡ r.clauses →
     length (fold add_constraint r.formula constraints).matrix ≤ max_clauses →
     AreLawfulConstraints r.formula.variables constraints →
     run (at_part r) (flat_map constraint_lexemes constraints) ≡ Some
     (with_free (fold add_constraint r.formula constraints))
-read_constraints [] r counted few lawful =
-    ap (λ b. formula_or_none (cond b (Err TooFewClauses) (Ok (with_free r.formula))))
-    (le-ltb r.constraints r.clauses (omega (arith, counted)))
+read_constraints [] r counted few lawful = search (arith, le-ltb)
 read_constraints (c ∷ cs) r counted few lawful =
     let next = with_constraint r (add_constraint r.formula c) in
     let room : HasRoom r (length (clauses_of c)) =
@@ -290,10 +237,7 @@ read_constraints (c ∷ cs) r counted few lawful =
 
 pub declares-keep : (parts : List PrefixPart) (f : Dqbf) → Keeps f (fold declare f parts)
 declares-keep [] f = record { variables = refl; matrix = refl }
-declares-keep (part ∷ parts) f =
-    let here = declare-keeps part f in
-    let rest = declares-keep parts (declare f part) in
-    record { variables = rest.variables ∙ here.variables; matrix = rest.matrix ∙ here.matrix }
+declares-keep (part ∷ parts) f = search (arith, declare-keeps, (declares-keep parts))
 
 within : (limit n : ℕ) → n ≤ limit → check_limit limit n ≡ None
 within limit n h = no_fault (nat_lt limit n) Limit None (le-ltb limit n h)

@@ -1,12 +1,11 @@
 -- XOR lines: how many clauses one has, on which variables these stand, and what an XOR line's next
 -- literal keeps.
-use Rattle.std.proofs.Common.{◌≡◌, ◌≢◌, ℕ, suc, ◌<◌, ◌≤◌, ◌==◌, ◌||◌, nat_lt, Bool, true, false, not, cond, List, [], ◌∷◌, ◌++◌, map, length, reverse, get_or, Option, None, refl, sym, ◌∙◌, ap, subst, arith, length-append}
+use Rattle.std.proofs.Common.{◌≡◌, ◌≢◌, ℕ, suc, ◌<◌, ◌≤◌, ◌||◌, nat_lt, Bool, true, false, not, cond, List, [], ◌∷◌, ◌++◌, map, length, reverse, get_or, Option, None, refl, sym, ◌∙◌, ap, subst, arith, length-append}
 use Rattle.std.specs.List.{AllPairs, AllByRecursion, list_any}
 use Rattle.std.proofs.lemmas.Bool.{ne_eqb, eqb-false, eq-eqb, ltb-true, ltb-false, not-false, true≢false}
 use Rattle.std.proofs.lemmas.List.{map-append, length-map, get_or-map, reverse-append, reverse-reverse}
 use Rattle.std.proofs.lemmas.List.Folds.{list_any_at}
 use Rattle.std.proofs.lemmas.List.Quantifiers.{all_pairs_push}
-use Rattle.list_laws.proofs.Truths.{neither}
 use Rattle.list_laws.proofs.Elements.{at_front}
 use Rattle.dq_lits.specs.Literal.{Literal, positive, negative, variable_of, opposite, same_literal}
 use Rattle.dq_lits.proofs.SignedLiterals.{opposite_variable}
@@ -15,7 +14,6 @@ use Rattle.dqdimacs_reader.specs.Building.{add_literal}
 use Rattle.dqdimacs_reader.specs.Grammar.{InRange}
 use Rattle.dqdimacs_reader.specs.Machine.{Reading, fault_if, check_xor_literal, stands_on, max_xor}
 use Rattle.dqdimacs_reader.specs.declared.faults.FormulaFault.{FormulaFault}
-use Rattle.dqdimacs_reader.specs.declared.faults.FormulaFault.TheVariants.{VarRange, XorSize, XorRepeat}
 
 pub no_fault_parts : (b : Bool) (name : FormulaFault) (rest : Option FormulaFault) → fault_if b name rest ≡ None →
     (b ≡ false) × (rest ≡ None)
@@ -72,10 +70,7 @@ with_last : (vs : List ℕ) (v : ℕ) (l : Literal) → variable_of l ≡ v → 
     AreOver vs clauses →
     AreOver (vs ++ v ∷ []) (map (λ c. c ++ l ∷ []) clauses)
 with_last vs v l stands [] are = tt
-with_last vs v l stands (c ∷ cs) are = (
-  map-append variable_of c (l ∷ []) ∙ ap (λ ws. ws ++ variable_of l ∷ []) are.0 ∙ ap (λ w. vs ++ w ∷ []) stands,
-  with_last vs v l stands cs are.1,
-)
+with_last vs v l stands (c ∷ cs) are = search (arith, map-append, (with_last vs v l stands cs are.1))
 
 parity_step : (even : Bool) (l : Literal) (before : List Literal) →
     AreOver (variables (reverse before)) (parity_clauses even before) →
@@ -147,10 +142,7 @@ same_stands (negative v) (negative w) apart = ne_eqb w v (λ e. apart (sym e))
 none_same : (ls : List Literal) (l : Literal) → list_any (stands_on (variable_of l)) ls ≡ false →
     list_any (same_literal l) ls ≡ false
 none_same [] l none = refl
-none_same (k ∷ ks) l none =
-    let parts = neither (variable_of k == variable_of l) (list_any (stands_on (variable_of l)) ks) none in
-    ap (λ b. b || list_any (same_literal l) ks) (same_stands k l (eqb-false (variable_of k) (variable_of l) parts.0))
-    ∙ none_same ks l parts.1
+none_same (k ∷ ks) l none = search (arith, same_stands, eqb-false, (none_same ks l))
 
 pub added_behind : (ls : List Literal) (l : Literal) → list_any (stands_on (variable_of l)) ls ≡ false →
     add_literal ls l ≡ ls ++ l ∷ []
@@ -183,13 +175,4 @@ pub record Goes (r : Reading) (ls : List Literal) (v : ℕ) : Type 0 where
   pub none : list_any (stands_on v) ls ≡ false
 
 pub goes : (r : Reading) (ls : List Literal) (v : ℕ) → check_xor_literal r ls v ≡ None → Goes r ls v
-goes r ls v passed =
-    let repeat = fault_if (list_any (stands_on v) ls) XorRepeat None in
-    let size = fault_if (not (nat_lt (length ls) max_xor)) XorSize repeat in
-    let range = no_fault_parts (nat_lt r.formula.variables v) VarRange size passed in
-    let few = no_fault_parts (not (nat_lt (length ls) max_xor)) XorSize repeat range.1 in
-    record {
-      in_range = ltb-false r.formula.variables v range.0;
-      room = ltb-true (length ls) max_xor (not-false (nat_lt (length ls) max_xor) few.0);
-      none = (no_fault_parts (list_any (stands_on v) ls) XorRepeat None few.1).0;
-    }
+goes r ls v passed = search (arith, nat_lt, no_fault_parts, ltb-false, ltb-true, not-false)

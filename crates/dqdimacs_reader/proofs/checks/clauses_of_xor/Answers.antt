@@ -15,13 +15,4 @@ pub returns-then-size-eq4-clause-value : goal.returns-then-size-eq4-clause-value
 returns-then-size-eq4-clause-value c = of_four c.args.literals.now (omega (arith, c.if-size-eq4.true))
 
 pub returns-else-size-eq4-clause-value : goal.returns-else-size-eq4-clause-value
-returns-else-size-eq4-clause-value c = of_five c.args.literals.now
-    (omega (
-      arith,
-      c.requires.some,
-      c.requires.few,
-      c.if-size-eq1.false,
-      c.if-size-eq2.false,
-      c.if-size-eq3.false,
-      c.if-size-eq4.false,
-    ))
+returns-else-size-eq4-clause-value c = search (arith, of_five)

@@ -1,3 +1,4 @@
+use Rattle.std.proofs.Common.{arith}
 use Rattle.dqdimacs_reader.proofs.Keys.{if_new, if_more}
 use Rattle.dqdimacs_reader.proofs.distinct.insert_into.Goals as goal
 
@@ -7,6 +8,4 @@ returns-clause-is_new c =
     c.requires.keys c.insert.ensures.added
 
 pub returns-clause-keys : goal.returns-clause-keys
-returns-clause-keys c =
-    if_more c.insert.result c.args.literal c.args.literals.now c.args.keys.now c.insert.new.self c.key_of.result
-    c.key_of.ensures c.requires.keys c.insert.ensures.there
+returns-clause-keys c = search (arith, if_more)

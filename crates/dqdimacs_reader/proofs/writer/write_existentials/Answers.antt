@@ -1,18 +1,12 @@
-use Rattle.std.proofs.Common.{get_or}
-use Rattle.dq_lits.specs.Formula.{existential_of}
+use Rattle.std.proofs.Common.{arith}
 use Rattle.dq_formula.specs.Prefix.{unseeing}
 use Rattle.dqdimacs_reader.specs.Canonical.{existential_text}
-use Rattle.dqdimacs_reader.proofs.ExistentialPlaces.{existential_at, named_in, is_of, is_some, one_more}
+use Rattle.dqdimacs_reader.proofs.ExistentialPlaces.{existential_at, named_in, is_of, one_more}
 use Rattle.dq_formula.proofs.Places.{existential_below}
 use Rattle.dqdimacs_reader.proofs.writer.write_existentials.Goals as goal
 
 pub write_existential-requires : goal.write_existential-requires
-write_existential-requires c =
-    let f = c.args.f.now in
-    let vars = c.existentials-existentials.result.now in
-    is_some (existential_of f (get_or vars c.loop-i.i 0)) (existential_at f c.loop-i.i)
-    (named_in f vars c.loop-i.i c.every_formula_is_lawful.ensures.named c.existentials-existentials.ensures
-    c.loop-i-test.true)
+write_existential-requires c = search (arith, named_in)
 
 pub loop-i-preserved : goal.loop-i-preserved
 loop-i-preserved c =
