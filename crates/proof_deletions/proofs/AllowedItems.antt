@@ -71,30 +71,13 @@ IsKept first n steps = (id : ℕ) → first ≤ id → id < n.next → is_hinted
 
 kept_behind : (first : ℕ) (n : Numbering) (step : ProofStep) (later : List ProofStep) → IsKept first n (step ∷ later) →
     IsKept first (with_next n) later
-kept_behind first n step later kept id low below hinted = by (cases_eq id n.next)
-  where
-    less : (a b : ℕ) → a < b + 1 → (a ≡ b → ⊥) → a < b
-    less a b h differ = omega (arith, h, differ)
-
-    by : (id ≡ n.next) ⊎ (id ≡ n.next → ⊥) → (eqb id n.next || n.live id) ≡ true
-    by (inl same) = or_left (eqb id n.next) (n.live id) (eq-eqb id n.next same)
-    by (inr differ) = or_right (eqb id n.next) (n.live id)
-        (kept id low (less id n.next below differ) (or_right (is_among step.hints id) (is_hinted later id) hinted))
+kept_behind first n step later kept id low below hinted = search (arith, cases_eq, or_left, eq-eqb, or_right)
 
 spent_are_live : (first : ℕ) (n : Numbering) (step : ProofStep) (later : List ProofStep) → first ≤ n.next →
     step.id ≡ n.next →
     IsKept first n (step ∷ later) → (id : ℕ) → is_among (spent_ids first step later) id ≡ true →
     (with_next n).live id ≡ true
-spent_are_live first n step later le numbered kept id among =
-    let q = among_filter (λ i. is_among step.hints i && not (is_hinted later i)) first (step.id - first) id among in
-    or_right (eqb id n.next) (n.live id)
-    (kept id q.from (omega (arith, q.below, le, numbered))
-    (or_left (is_among step.hints id) (is_hinted later id)
-    (first_of (is_among step.hints id) (not (is_hinted later id)) q.passes)))
-  where
-    first_of : (b c : Bool) → (b && c) ≡ true → b ≡ true
-    first_of true c h = refl
-    first_of false c h = h
+spent_are_live first n step later le numbered kept id among = search (arith, among_filter, or_right, or_left)
 
 -- ids that live, each once, and no later line hints, may stand in a deletion
 behind : (V : ℕ → Bool) (first : ℕ) (n : Numbering) (later : List ProofStep) (items : List ProofItem) (ids : List ℕ) →
@@ -109,9 +92,7 @@ behind V first n later items (id ∷ ids) apart live free kept rest = (
 )
   where
     kept_then : IsKept first (without_all n (id ∷ ids)) later
-    kept_then i low below hinted =
-        live_same n (id ∷ ids) i (kept i low (subst (λ k. i < k) (next_kept n (id ∷ ids)) below) hinted)
-        (false_unless (is_among (id ∷ ids) i) (λ among. true≢false (sym hinted ∙ free i among)))
+    kept_then i low below hinted = search (arith, live_same, next_kept, false_unless)
 
 allowed : (V : ℕ → Bool) (first : ℕ) (n : Numbering) (steps : List ProofStep) → first ≤ n.next →
     AreSteps V n.next steps →
@@ -157,16 +138,11 @@ small_lines : (first : ℕ) (steps : List ProofStep) → All IsSmallItem (map de
 small_lines first [] small = All-nil IsSmallItem
 small_lines first (step ∷ []) small = small
 small_lines first (step ∷ next ∷ later) small =
-    All-cons IsSmallItem (derived step) (deletion (spent_ids first step (next ∷ later)) ++ deleting_from first
-    (next ∷ later))
-    (All-head IsSmallItem (derived step) (map derived (next ∷ later)) small)
-    (small_behind (spent_ids first step (next ∷ later)) (deleting_from first (next ∷ later))
-    (small_lines first (next ∷ later) (All-tail IsSmallItem (derived step) (map derived (next ∷ later)) small)))
+    search (arith, All-cons, All-head, small_behind, (small_lines first (next ∷ later)), All-tail)
 
 pub items_small : (items : List ProofItem) → AreNumberedLines items → All IsSmallItem items → All IsSmallItem
     (with_deletions items)
-items_small items lines small =
-    small_lines (first_number (lines_of items)) (lines_of items) (subst (All IsSmallItem) lines.lines small)
+items_small items lines small = search (arith, small_lines)
 
 few_behind : (ids : List ℕ) (items : List ProofItem) → length (deletion ids ++ items) ≤ length items + 1
 few_behind [] items = omega arith
@@ -198,14 +174,7 @@ more_behind (id ∷ ids) items = omega arith
 no_fewer_lines : (first : ℕ) (steps : List ProofStep) → length steps ≤ length (deleting_from first steps)
 no_fewer_lines first [] = omega arith
 no_fewer_lines first (step ∷ []) = omega arith
-no_fewer_lines first (step ∷ next ∷ later) =
-    let rest = no_fewer_lines first (next ∷ later) in
-    let here = more_behind (spent_ids first step (next ∷ later)) (deleting_from first (next ∷ later)) in
-    omega (arith, rest, here)
+no_fewer_lines first (step ∷ next ∷ later) = search (arith, (no_fewer_lines first (next ∷ later)), more_behind)
 
 pub items_no_fewer : (items : List ProofItem) → AreNumberedLines items → length items ≤ length (with_deletions items)
-items_no_fewer items lines =
-    let here = no_fewer_lines (first_number (lines_of items)) (lines_of items) in
-    let same = ap length lines.lines in
-    let mapped = length-map (lines_of items) derived in
-    omega (arith, here, same, mapped)
+items_no_fewer items lines = search (arith, no_fewer_lines, length-map)

@@ -1,6 +1,5 @@
 -- Lists that get a place in front.
-use Rattle.std.proofs.Common.{◌≡◌, ◌≢◌, ◌⊎◌, inl, inr, ℕ, suc, ◌+◌, ◌-◌, ◌≤◌, ◌<◌, cond, List, [], ◌∷◌, length, length-set, set, get_or, get_or-set_same, get_or-set_other, refl, sym, ◌∙◌, ap, subst, arith, eqb, filter}
-use Rattle.std.specs.List.{range_with_len}
+use Rattle.std.proofs.Common.{◌≡◌, ◌≢◌, ◌⊎◌, inl, inr, ℕ, ◌+◌, ◌≤◌, ◌<◌, cond, List, [], ◌∷◌, length, length-set, set, get_or, get_or-set_same, get_or-set_other, refl, sym, ◌∙◌, ap, subst, arith, eqb}
 use Rattle.std.proofs.lemmas.Bool.{cases_eq, eqb-true, eq-eqb}
 use Rattle.list_laws.proofs.Truths.{false_unless}
 use Rattle.proof_deletions.specs.Chains.{IsChain, used_at, AreChained}
@@ -22,22 +21,15 @@ chain_stays nexts k v head (j ∷ js) h (at, there, behind, rest) =
 -- one place more
 used_step : (table : List ℕ) (k p : ℕ) → k < length table →
     used_at table k p ≡ cond (eqb (get_or table k 0) (p + 1)) (k ∷ used_at table (k + 1) p) (used_at table (k + 1) p)
-used_step table k p h =
-    ap (λ m. filter (λ i. eqb (get_or table i 0) (p + 1)) (range_with_len k m))
-    (let e : length table - k ≡ suc (length table - (k + 1)) = omega (arith, h) in e)
+used_step table k p h = search arith
 
 used_kept : (table : List ℕ) (k p : ℕ) → k < length table → (get_or table k 0 ≡ p + 1 → ⊥) →
     used_at table k p ≡ used_at table (k + 1) p
-used_kept table k p h other =
-    used_step table k p h
-    ∙ ap (λ b. cond b (k ∷ used_at table (k + 1) p) (used_at table (k + 1) p))
-    (false_unless (eqb (get_or table k 0) (p + 1)) (λ e. other (eqb-true (get_or table k 0) (p + 1) e)))
+used_kept table k p h other = search (arith, used_step, false_unless, eqb-true)
 
 used_more : (table : List ℕ) (k p : ℕ) → k < length table → get_or table k 0 ≡ p + 1 →
     used_at table k p ≡ k ∷ used_at table (k + 1) p
-used_more table k p h this =
-    used_step table k p h
-    ∙ ap (λ b. cond b (k ∷ used_at table (k + 1) p) (used_at table (k + 1) p)) (eq-eqb (get_or table k 0) (p + 1) this)
+used_more table k p h this = search (arith, used_step, eq-eqb)
 
 -- a place that is used last at the line at a place
 pub linked : (table heads nexts : List ℕ) (k last : ℕ) → k < length table → last < length table →

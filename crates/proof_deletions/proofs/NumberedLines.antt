@@ -1,14 +1,14 @@
 -- Lines by their numbers and hints.
-use Rattle.std.proofs.Common.{◌≡◌, ℕ, ◌+◌, ◌-◌, ◌≤◌, Bool, not, ◌&&◌, ◌||◌, List, [], ◌∷◌, ◌++◌, map, length, Option, None, Some, option_map, slice_get, get_or, take, drop, arith, refl, sym, ◌∙◌, ap, subst, filter}
+use Rattle.std.proofs.Common.{◌≡◌, ℕ, ◌+◌, ◌≤◌, Bool, List, [], ◌∷◌, ◌++◌, map, length, Option, None, Some, option_map, slice_get, get_or, take, drop, arith, refl, sym, ◌∙◌, ap, subst}
 use Rattle.std.specs.List.{All, range_with_len}
 use Rattle.std.proofs.lemmas.List.Elements.{All-nil, All-cons, filter_agree}
 use Rattle.std.proofs.lemmas.Option.{slice_get-map, slice_get_within, get_or_from_slice_get}
 use Rattle.std.proofs.lemmas.List.FromFn.{get_or-range_with_len}
 use Rattle.std.proofs.lemmas.List.{length-map, length-take-le, take_more, take-append-drop, drop_more}
 use Rattle.dq_lits.specs.Derivation.{ProofStep}
-use Rattle.rup_core.specs.Items.{ProofItem, derived, gone, is_among}
+use Rattle.rup_core.specs.Items.{ProofItem, derived, gone}
 use Rattle.cert_text.specs.Grammar.{AreSteps}
-use Rattle.proof_deletions.specs.Deletions.{is_hinted, spent_ids, deletion, deleting_from, AreNumberedLines, lines_of, first_number}
+use Rattle.proof_deletions.specs.Deletions.{is_hinted, spent_ids, deletion, AreNumberedLines, lines_of, first_number}
 use Rattle.proof_deletions.specs.Laws.{on_line, ChangedLinesDeleteAlike}
 
 lines_back : (steps : List ProofStep) → lines_of (map derived steps) ≡ steps
@@ -50,20 +50,11 @@ KeepsNumbers g = (step : ProofStep) → ((g step).id ≡ step.id) × ((g step).h
 hinted_alike : (g : ProofStep → ProofStep) → KeepsNumbers g → (steps : List ProofStep) (id : ℕ) →
     is_hinted (map g steps) id ≡ is_hinted steps id
 hinted_alike g keeps [] id = refl
-hinted_alike g keeps (step ∷ steps) id =
-    ap (λ hints. is_among hints id || is_hinted (map g steps) id) (keeps step).1
-    ∙ ap (λ (b : Bool). is_among step.hints id || b) (hinted_alike g keeps steps id)
+hinted_alike g keeps (step ∷ steps) id = search (arith, (hinted_alike g keeps steps id))
 
 spent_alike : (g : ProofStep → ProofStep) → KeepsNumbers g → (first : ℕ) (step : ProofStep) (later : List ProofStep) →
     spent_ids first (g step) (map g later) ≡ spent_ids first step later
-spent_alike g keeps first step later =
-    filter_agree (λ id. is_among (g step).hints id && not (is_hinted (map g later) id))
-    (λ id. is_among step.hints id && not (is_hinted later id))
-    (λ id. ap (λ hints. is_among hints id && not (is_hinted (map g later) id)) (keeps step).1
-    ∙ ap (λ (b : Bool). is_among step.hints id && not b) (hinted_alike g keeps later id))
-    (range_with_len first ((g step).id - first))
-    ∙ ap (λ id. filter (λ i. is_among step.hints i && not (is_hinted later i)) (range_with_len first (id - first)))
-    (keeps step).0
+spent_alike g keeps first step later = search (arith, filter_agree, hinted_alike)
 
 deletion_alike : (g : ProofStep → ProofStep) (ids : List ℕ) (items : List ProofItem) →
     deletion ids ++ map (on_line g) items ≡ map (on_line g) (deletion ids ++ items)
@@ -74,11 +65,7 @@ pub changed_alike : ChangedLinesDeleteAlike
 changed_alike g keeps first [] = refl
 changed_alike g keeps first (step ∷ []) = refl
 changed_alike g keeps first (step ∷ next ∷ later) =
-    ap (λ items. derived (g step) ∷ items)
-    (ap (λ ids. deletion ids ++ deleting_from first (map g (next ∷ later)))
-    (spent_alike g keeps first step (next ∷ later))
-    ∙ ap (λ items. deletion (spent_ids first step (next ∷ later)) ++ items) (changed_alike g keeps first (next ∷ later))
-    ∙ deletion_alike g (spent_ids first step (next ∷ later)) (deleting_from first (next ∷ later)))
+    search (arith, spent_alike, (changed_alike g keeps first (next ∷ later)), deletion_alike)
 
 -- a line at a place
 some_derived : (o : Option ProofStep) (step : ProofStep) → option_map derived o ≡ Some (derived step) → o ≡ Some step
@@ -91,15 +78,11 @@ none_gone (Some s) ids h = cc
 
 pub line_there : (items : List ProofItem) (place : ℕ) (step : ProofStep) → items ≡ map derived (lines_of items) →
     slice_get items place ≡ Some (derived step) → slice_get (lines_of items) place ≡ Some step
-line_there items place step lines at =
-    some_derived (slice_get (lines_of items) place) step
-    (sym (slice_get-map derived (lines_of items) place) ∙ ap (λ is. slice_get is place) (sym lines) ∙ at)
+line_there items place step lines at = search (arith, some_derived, slice_get-map)
 
 pub no_deletion_there : (items : List ProofItem) (place : ℕ) (ids : List ℕ) → items ≡ map derived (lines_of items) →
     slice_get items place ≡ Some (gone ids) → ⊥
-no_deletion_there items place ids lines at =
-    none_gone (slice_get (lines_of items) place) ids
-    (sym (slice_get-map derived (lines_of items) place) ∙ ap (λ is. slice_get is place) (sym lines) ∙ at)
+no_deletion_there items place ids lines at = search (arith, none_gone, slice_get-map)
 
 pub as_many : (items : List ProofItem) → items ≡ map derived (lines_of items) → length (lines_of items) ≡ length items
 as_many items lines = sym (ap length lines ∙ length-map (lines_of items) derived)

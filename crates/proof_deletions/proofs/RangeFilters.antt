@@ -1,5 +1,5 @@
 -- Numbers of a range that pass a test.
-use Rattle.std.proofs.Common.{◌≡◌, ℕ, zero, suc, ◌+◌, ◌≤◌, ◌<◌, Bool, true, false, true≢false, ◌||◌, cond, List, ◌∷◌, refl, sym, ◌∙◌, ap, arith, filter, eqb}
+use Rattle.std.proofs.Common.{◌≡◌, ℕ, zero, suc, ◌+◌, ◌≤◌, ◌<◌, Bool, true, false, true≢false, ◌||◌, cond, List, ◌∷◌, refl, sym, arith, filter, eqb}
 use Rattle.std.specs.List.{range_with_len}
 use Rattle.std.proofs.lemmas.Bool.{eqb-true}
 use Rattle.rup_core.specs.Items.{is_among}
@@ -10,19 +10,9 @@ pub record IsPicked (p : ℕ → Bool) (a n id : ℕ) : Type 0 where
   pub below : id < a + n
   pub passes : p id ≡ true
 
-picked_later : (p : ℕ → Bool) (a n id : ℕ) → IsPicked p (a + 1) n id → IsPicked p a (suc n) id
-picked_later p a n id q = record {
-  from = (let f = q.from in omega (arith, f));
-  below =
-      (let b = q.below in omega (arith, b));
-  passes = q.passes;
-}
-
 picked_here : (p : ℕ → Bool) (a n id : ℕ) → p a ≡ true → (rest : Bool) → (rest ≡ true → IsPicked p a (suc n) id) →
     (b : Bool) → eqb a id ≡ b → (b || rest) ≡ true → IsPicked p a (suc n) id
-picked_here p a n id passes rest later true e g =
-    let same : a ≡ id = eqb-true a id e in
-    record { from = omega (arith, same); below = omega (arith, same); passes = ap p (sym same) ∙ passes }
+picked_here p a n id passes rest later true e g = search (arith, eqb-true)
 picked_here p a n id passes rest later false e g = later g
 
 picked_by : (p : ℕ → Bool) (a n id : ℕ) (rest : List ℕ) → (is_among rest id ≡ true → IsPicked p a (suc n) id) →
@@ -32,6 +22,4 @@ picked_by p a n id rest later false e h = later h
 
 pub among_filter : (p : ℕ → Bool) (a n id : ℕ) → is_among (filter p (range_with_len a n)) id ≡ true → IsPicked p a n id
 among_filter p a zero id h = absurd (true≢false (sym h))
-among_filter p a (suc n) id h =
-    picked_by p a n id (filter p (range_with_len (a + 1) n))
-    (λ g. picked_later p a n id (among_filter p (a + 1) n id g)) (p a) refl h
+among_filter p a (suc n) id h = search (arith, picked_by, (among_filter p (a + 1) n id))

@@ -1,37 +1,27 @@
 -- Deletions change no fault, since what is deleted isn't hinted any more.
-use Rattle.std.proofs.Common.{◌≡◌, ℕ, Bool, true, false, true≢false, not, ◌&&◌, List, [], ◌∷◌, ◌++◌, map, Option, refl, sym, ◌∙◌, ap, eqb}
+use Rattle.std.proofs.Common.{◌≡◌, ℕ, Bool, true, false, true≢false, List, [], ◌∷◌, ◌++◌, map, Option, refl, ◌∙◌, ap, eqb, arith}
 use Rattle.std.specs.List.{AllByRecursion}
 use Rattle.std.proofs.lemmas.Bool.{eq-eqb}
-use Rattle.list_laws.proofs.Truths.{neither}
 use Rattle.dq_lits.specs.Derivation.{LiveClauses, with_clause, line_fault, ProofStep, ProofFault, fault_of_step, is_empty}
 use Rattle.rup_core.specs.Items.{ProofItem, derived, gone, is_among, items_fault, AreUnused}
 use Rattle.proof_deletions.specs.Deletions.{is_hinted, spent_ids, deletion, deleting_from}
 use Rattle.proof_deletions.proofs.RangeFilters.{among_filter}
 
-second_of : (b c : Bool) → (b && not c) ≡ true → c ≡ false
-second_of true true h = absurd (true≢false (sym h))
-second_of true false h = refl
-second_of false c h = absurd (true≢false (sym h))
-
 -- spent ids aren't hinted later
 pub spent_isn't_hinted : (first : ℕ) (step : ProofStep) (later : List ProofStep) (id : ℕ) →
     is_among (spent_ids first step later) id ≡ true → is_hinted later id ≡ false
-spent_isn't_hinted first step later id h =
-    second_of (is_among step.hints id) (is_hinted later id)
-    (among_filter (λ i. is_among step.hints i && not (is_hinted later i)) first _ id h).passes
+spent_isn't_hinted first step later id h = search (arith, among_filter)
 
 abbrev pub NotHinted : List ℕ → List ProofStep → Type 0
 NotHinted ids steps = (id : ℕ) → is_among ids id ≡ true → is_hinted steps id ≡ false
 
 not_hinted_by : (ids : List ℕ) (step : ProofStep) (later : List ProofStep) → NotHinted ids (step ∷ later) →
     (id : ℕ) → is_among ids id ≡ true → is_among step.hints id ≡ false
-not_hinted_by ids step later free id among =
-    (neither (is_among step.hints id) (is_hinted later id) (free id among)).0
+not_hinted_by ids step later free id among = search arith
 
 not_hinted_later : (ids : List ℕ) (step : ProofStep) (later : List ProofStep) → NotHinted ids (step ∷ later) →
     NotHinted ids later
-not_hinted_later ids step later free id among =
-    (neither (is_among step.hints id) (is_hinted later id) (free id among)).1
+not_hinted_later ids step later free id among = search arith
 
 eqb-same : (n : ℕ) → eqb n n ≡ true
 eqb-same n = eq-eqb n n refl
@@ -40,15 +30,7 @@ eqb-same n = eq-eqb n n refl
 unhinted : (ids hints : List ℕ) → ((id : ℕ) → is_among ids id ≡ true → is_among hints id ≡ false) →
     AllByRecursion (λ hint. is_among ids hint ≡ false) hints
 unhinted ids [] free = tt
-unhinted ids (hint ∷ hints) free = (
-  here (is_among ids hint) refl,
-  unhinted ids hints (λ id among. (neither (eqb hint id) (is_among hints id) (free id among)).1),
-)
-  where
-    here : (b : Bool) → is_among ids hint ≡ b → is_among ids hint ≡ false
-    here false e = e
-    here true e = absurd (true≢false (sym (eqb-same hint)
-        ∙ (neither (eqb hint hint) (is_among hints hint) (free hint e)).0))
+unhinted ids (hint ∷ hints) free = search (arith, (unhinted ids hints), true≢false, eqb-same)
 
 behind_deletion : (ids others : List ℕ) (items : List ProofItem) → AreUnused ids items →
     AreUnused ids (deletion others ++ items)

@@ -1,6 +1,6 @@
 -- Where a line's list has the places whose last use is noted at it, their numbers are the ids that are
 -- spent there.
-use Rattle.std.proofs.Common.{◌≡◌, ℕ, zero, suc, ◌+◌, ◌-◌, ◌≤◌, ◌<◌, nat_lt, Bool, true, false, true≢false, not, ◌&&◌, ◌||◌, ◌⊎◌, inl, inr, if◌then◌else◌, cond, List, [], ◌∷◌, ◌++◌, map, length, refl, sym, ◌∙◌, ap, subst, arith, eqb, filter}
+use Rattle.std.proofs.Common.{◌≡◌, ℕ, zero, suc, ◌+◌, ◌-◌, ◌≤◌, ◌<◌, nat_lt, Bool, true, false, true≢false, not, ◌&&◌, ◌⊎◌, inl, inr, if◌then◌else◌, cond, List, [], ◌∷◌, ◌++◌, map, length, refl, sym, ◌∙◌, ap, arith, eqb, filter}
 use Rattle.std.specs.Prelude.{slice_index_or}
 use Rattle.std.specs.List.{range_with_len}
 use Rattle.std.proofs.lemmas.Bool.{eqb-true, eq-eqb, lt-ltb, ltb-true}
@@ -11,7 +11,7 @@ use Rattle.dq_lits.specs.Derivation.{ProofStep}
 use Rattle.rup_core.specs.Items.{ProofItem, derived, is_among}
 use Rattle.proof_deletions.specs.Chains.{used_at}
 use Rattle.proof_deletions.specs.Deletions.{is_hinted, spent_ids, deletion, deleting_from}
-use Rattle.proof_deletions.specs.LastUses.{uses, later_of, last_use, AreLastUses, AreNoted}
+use Rattle.proof_deletions.specs.LastUses.{later_of, last_use, AreLastUses, AreNoted}
 
 later_none : (n : ℕ) → later_of 0 n ≡ n
 later_none zero = refl
@@ -24,13 +24,8 @@ later_joins a b (suc c) = refl
 -- in two parts
 pub last_use-append : (first place : ℕ) (xs ys : List ProofStep) (k : ℕ) →
     last_use first place (xs ++ ys) k ≡ later_of (last_use first place xs k) (last_use first (place + length xs) ys k)
-last_use-append first place [] ys k =
-    ap (λ p. last_use first p ys k) (omega arith) ∙ sym (later_none (last_use first (place + 0) ys k))
-last_use-append first place (x ∷ xs) ys k =
-    let here = if uses first place x.hints k then place + 1 else 0 in
-    ap (later_of here) (last_use-append first (place + 1) xs ys k)
-    ∙ later_joins here (last_use first (place + 1) xs k) (last_use first (place + 1 + length xs) ys k)
-    ∙ ap (λ p. later_of (later_of here (last_use first (place + 1) xs k)) (last_use first p ys k)) (omega arith)
+last_use-append first place [] ys k = search (arith, later_none)
+last_use-append first place (x ∷ xs) ys k = search (arith, (last_use-append first (place + 1) xs ys k), later_joins)
 
 later_is : (a n : ℕ) → 0 < n → later_of a n ≡ n
 later_is a zero h = absurd (omega (arith, h))
@@ -40,26 +35,10 @@ use_in : (first place : ℕ) (steps : List ProofStep) (k : ℕ) →
     (last_use first place steps k ≡ 0) ⊎ ((place < last_use first place steps k) ×
     (last_use first place steps k ≤ place + length steps))
 use_in first place [] k = inl refl
-use_in first place (step ∷ steps) k = by (last_use first (place + 1) steps k) (uses first place step.hints k)
-    (use_in first (place + 1) steps k)
-  where
-    by : (later : ℕ) (b : Bool) → (later ≡ 0) ⊎ ((place + 1 < later) × (later ≤ place + 1 + length steps)) →
-        (later_of (if b then place + 1 else 0) later ≡ 0)
-        ⊎ ((place < later_of (if b then place + 1 else 0) later) ×
-        (later_of (if b then place + 1 else 0) later ≤ place + length (step ∷ steps)))
-    by zero true h = inr (omega arith, omega arith)
-    by zero false h = inl refl
-    by (suc later) b (inl h) = absurd (omega (arith, h))
-    by (suc later) b (inr h) = let low = h.0 in let high = h.1 in inr (omega (arith, low), omega (arith, high))
+use_in first place (step ∷ steps) k = search (arith, (use_in first (place + 1) steps k))
 
 pub use_at_most : (first : ℕ) (steps : List ProofStep) (k : ℕ) → last_use first 0 steps k ≤ length steps
-use_at_most first steps k = by (use_in first 0 steps k)
-  where
-    by : (last_use first 0 steps k ≡ 0) ⊎ ((0 < last_use first 0 steps k) ×
-        (last_use first 0 steps k ≤ 0 + length steps)) →
-        last_use first 0 steps k ≤ length steps
-    by (inl h) = omega (arith, h)
-    by (inr h) = let g = h.1 in omega (arith, g)
+use_at_most first steps k = search (arith, use_in)
 
 lt-false : (k place : ℕ) → place ≤ k → nat_lt k place ≡ false
 lt-false k place h = false_unless (nat_lt k place) (λ e. let l = ltb-true k place e in absurd (omega (arith, h, l)))
@@ -75,19 +54,7 @@ none_by : (first place : ℕ) (steps : List ProofStep) (k : ℕ) → k < place �
     eqb (last_use first place steps k) 0 ≡ not (is_hinted steps (first + k))
 none_by first place [] k h = refl
 none_by first place (step ∷ steps) k h =
-    by (last_use first (place + 1) steps k) (is_hinted steps (first + k)) (is_among step.hints (first + k))
-    (nat_lt k place)
-    (lt-ltb k place h) (none_by first (place + 1) steps k (omega (arith, h)))
-  where
-    by : (later : ℕ) (hinted b lt : Bool) → lt ≡ true → eqb later 0 ≡ not hinted →
-        eqb (later_of (if lt && b then place + 1 else 0) later) 0 ≡ not (b || hinted)
-    by later hinted b false e same = absurd (true≢false (sym e))
-    by zero true b true e same = absurd (true≢false same)
-    by zero false true true e same = not-zero place
-    by zero false false true e same = refl
-    by (suc later) true true true e same = suc-not-zero later
-    by (suc later) true false true e same = suc-not-zero later
-    by (suc later) false b true e same = absurd (true≢false (sym same ∙ suc-not-zero later))
+    search (arith, nat_lt, lt-ltb, (none_by first (place + 1) steps k), true≢false, not-zero, suc-not-zero)
 
 -- the last use is at a line of the middle
 here_by : (first : ℕ) (before : List ProofStep) (step : ProofStep) (later : List ProofStep) (k : ℕ) →
@@ -128,47 +95,20 @@ not_here : (first : ℕ) (before : List ProofStep) (step : ProofStep) (later : L
     length before ≤ k →
     eqb (last_use first 0 (before ++ step ∷ later) k) (length before + 1) ≡ false
 not_here first before step later k h =
-    ap (λ u. eqb u (p + 1)) (last_use-append first 0 before (step ∷ later) k)
-    ∙ by (last_use first 0 before k) (last_use first (0 + p + 1) later k) (is_among step.hints (first + k))
-    (nat_lt k (0 + p)) (use_at_most first before k)
-    (use_in first (0 + p + 1) later k) (lt-false k (0 + p) (omega (arith, h)))
-  where
-    p : ℕ
-    p = length before
-
-    by : (u later_use : ℕ) (b lt : Bool) → u ≤ p →
-        (later_use ≡ 0) ⊎ ((0 + p + 1 < later_use) × (later_use ≤ 0 + p + 1 + length later)) → lt ≡ false →
-        eqb (later_of u (later_of (if lt && b then 0 + p + 1 else 0) later_use)) (p + 1) ≡ false
-    by u later_use b true few within e = absurd (true≢false e)
-    by u zero b false few within e = false_unless (eqb u (p + 1))
-        (λ g. let q = eqb-true u (p + 1) g in absurd (omega (arith, q, few)))
-    by u (suc later_use) b false few (inl none) e = absurd (omega (arith, none))
-    by u (suc later_use) b false few (inr within) e =
-        false_unless (eqb (suc later_use) (p + 1)) (λ g. let q = eqb-true (suc later_use) (p + 1) g in let w = within.0 in
-        absurd (omega (arith, q, w)))
+    search (arith, last_use-append, nat_lt, use_at_most, use_in, lt-false, true≢false, false_unless, eqb-true)
 
 -- tests that agree in a range
 filter_in : (t u : ℕ → Bool) (a n : ℕ) → ((k : ℕ) → a ≤ k → k < a + n → t k ≡ u k) →
     filter t (range_with_len a n) ≡ filter u (range_with_len a n)
 filter_in t u a zero same = refl
-filter_in t u a (suc n) same =
-    ap (λ (b : Bool). cond b (a ∷ filter t (range_with_len (a + 1) n)) (filter t (range_with_len (a + 1) n)))
-    (same a (omega arith) (omega arith))
-    ∙ ap (λ (ks : List ℕ). cond (u a) (a ∷ ks) ks)
-    (filter_in t u (a + 1) n (λ k low below. same k (omega (arith, low)) (omega (arith, below))))
+filter_in t u a (suc n) same = search (arith, (filter_in t u (a + 1) n))
 
 none_pass : (a n : ℕ) → filter (λ k. false) (range_with_len a n) ≡ []
 none_pass a zero = refl
 none_pass a (suc n) = none_pass (a + 1) n
 
 range_in_two : (a n m : ℕ) → range_with_len a (n + m) ≡ range_with_len a n ++ range_with_len (a + n) m
-range_in_two a zero m = rw (omega_zero m, omega_plus a) refl
-  where
-    omega_zero : (m : ℕ) → zero + m ≡ m
-    omega_zero m = omega arith
-
-    omega_plus : (a : ℕ) → a + zero ≡ a
-    omega_plus a = omega arith
+range_in_two a zero m = search arith
 range_in_two a (suc n) m =
     ap (range_with_len a) (let e : suc n + m ≡ suc (n + m) = omega arith in e)
     ∙ ap (λ ks. a ∷ ks) (range_in_two (a + 1) n m ∙ ap (λ b. range_with_len (a + 1) n ++ range_with_len b m)
@@ -248,12 +188,7 @@ spent_by first before step later table are numbered =
 pub spent_at : (first n place : ℕ) (steps before later : List ProofStep) (step : ProofStep) (table : List ℕ) →
     AreLastUses first steps n table → steps ≡ before ++ step ∷ later → length before ≡ place → length steps ≡ n →
     step.id ≡ first + place → map (λ k. first + k) (used_at table 0 place) ≡ spent_ids first step later
-spent_at first n place steps before later step table are cut here many id =
-    subst (λ p. map (λ k. first + k) (used_at table 0 p) ≡ spent_ids first step later) here
-    (spent_by first before step later table
-    (subst (λ m. AreLastUses first (before ++ step ∷ later) m table) (sym many ∙ ap length cut)
-    (subst (λ ss. AreLastUses first ss n table) cut are))
-    (id ∙ ap (λ p. first + p) (sym here)))
+spent_at first n place steps before later step table are cut here many id = search (arith, spent_by)
 
 -- one line more
 keeps_later : (a b : ℕ) (used : Bool) → later_of a (later_of (if used then b + 1 else 0) 0) ≡
@@ -264,16 +199,7 @@ keeps_later a b false = refl
 pub noted_next : (first n : ℕ) (steps : List ProofStep) (step : ProofStep) (old new : List ℕ) →
     AreLastUses first steps n old →
     AreNoted first (length steps) step.hints old new → AreLastUses first (steps ++ step ∷ []) n new
-noted_next first n steps step old new are noted = record {
-  many = noted.many ∙ are.many;
-  each = λ k below.
-      noted.each k (let e = are.many in omega (arith, e, below))
-      ∙ ap (λ a. if uses first (length steps) step.hints k then length steps + 1 else a) (are.each k below)
-      ∙ sym (last_use-append first 0 steps (step ∷ []) k
-      ∙ keeps_later (last_use first 0 steps k) (0 + length steps) (uses first (0 + length steps) step.hints k)
-      ∙ ap (λ p. if uses first p step.hints k then p + 1 else last_use first 0 steps k)
-      (let e : 0 + length steps ≡ length steps = omega arith in e));
-}
+noted_next first n steps step old new are noted = search (arith, last_use-append, keeps_later)
 
 -- the lines behind a line, one more, and none
 pub deleting_next : (first : ℕ) (items : List ProofItem) (step : ProofStep) (later : List ProofStep) (ids : List ℕ) →
@@ -282,10 +208,7 @@ pub deleting_next : (first : ℕ) (items : List ProofItem) (step : ProofStep) (l
     ((items ++ derived step ∷ []) ++ deletion ids) ++ deleting_from first later ≡ items ++ deleting_from first
     (step ∷ later)
 deleting_next first items step [] ids more are = absurd (omega (arith, more))
-deleting_next first items step (next ∷ later) ids more are =
-    append_assoc (items ++ derived step ∷ []) (deletion ids) (deleting_from first (next ∷ later))
-    ∙ append_assoc items (derived step ∷ []) (deletion ids ++ deleting_from first (next ∷ later))
-    ∙ ap (λ is. items ++ derived step ∷ (deletion is ++ deleting_from first (next ∷ later))) are
+deleting_next first items step (next ∷ later) ids more are = search (arith, append_assoc)
 
 pub deleting_last : (first : ℕ) (items : List ProofItem) (step : ProofStep) (later : List ProofStep) →
     length later ≤ 0 →
