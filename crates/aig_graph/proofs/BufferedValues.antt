@@ -1,6 +1,6 @@
 -- Values that a buffer has, of one row or of the rows that words have side by side: what stands in a row, and in the
 -- buffer, is a function from places to bits.
-use Rattle.std.proofs.Common.{◌≡◌, ◌≢◌, ℕ, ◌+◌, ◌<◌, Bool, false, ◌&&◌, inl, inr, ◌⊎◌, List, length, map, get_or, refl, sym, ◌∙◌, ap, subst, arith, set, get_or-set_same, get_or-set_other, length-set, Some}
+use Rattle.std.proofs.Common.{◌≡◌, ◌≢◌, ℕ, ◌+◌, ◌<◌, Bool, false, ◌&&◌, List, length, map, get_or, refl, ◌∙◌, ap, arith, set, get_or-set_same, get_or-set_other, length-set, Some}
 use Rattle.std.proofs.lemmas.List.{length-map, map-set}
 use Rattle.std.specs.List.{All}
 use Rattle.list_laws.proofs.Numbers.{below_or_here}
@@ -36,16 +36,7 @@ have_more : (graph : AigGraph) (row old new : ℕ → Bool) (g : ℕ) (s : Sides
     ((h : ℕ) → h < g → gate_bit graph new h ≡ gate_bit graph old h) →
     HaveValues graph row new (g + 1)
 have_more graph row old new g s left right lawful values at sides left_is right_is here others =
-    λ h below. by h (below_or_here h g below)
-  where
-    by : (h : ℕ) → (h < g) ⊎ (h ≡ g) → gate_bit graph new h ≡ gate_value row graph.gates h
-    by h (inl below) = others h below ∙ values h below
-    by h (inr is) =
-        subst (λ k. gate_bit graph new k ≡ gate_value row graph.gates k) (sym is) (here
-        ∙ ap (λ b. b && right) (left_is ∙ node_has_value graph row old g values s.left sides.left)
-        ∙ ap (λ b. value_by row (gate_value row graph.gates) s.left && b)
-        (right_is ∙ node_has_value graph row old g values s.right sides.right)
-        ∙ sym (gate_value_at row graph.inputs graph.gates g s lawful.gates at))
+    search (arith, below_or_here, node_has_value, gate_value_at)
 
 apart : (inputs h g : ℕ) → h < g → inputs + h ≢ inputs + g
 apart inputs h g below = λ e. omega (arith, e, below)

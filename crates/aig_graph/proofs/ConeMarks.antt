@@ -1,5 +1,5 @@
 -- Marks of the cones of nodes.
-use Rattle.std.proofs.Common.{◌≡◌, ◌≢◌, ℕ, zero, suc, ◌+◌, ◌≤◌, ◌<◌, ◌==◌, Bool, true, false, inl, inr, ◌⊎◌, List, [], ◌∷◌, ◌++◌, length, take, get_or, Some, refl, sym, ◌∙◌, ap, subst, arith}
+use Rattle.std.proofs.Common.{◌≡◌, ◌≢◌, ℕ, zero, suc, ◌+◌, ◌≤◌, ◌<◌, ◌==◌, Bool, true, false, inl, inr, ◌⊎◌, List, [], ◌∷◌, ◌++◌, length, take, get_or, Some, sym, ◌∙◌, ap, subst, arith}
 use Rattle.std.specs.Prelude.{◌↔◌}
 use Rattle.std.specs.List.{Contains}
 use Rattle.std.proofs.lemmas.Bool.{false≢true, cases_Bool, eqb-true, eq-eqb}
@@ -116,13 +116,7 @@ pub record AreRootMarks (graph : AigGraph) (nodes : List Node) (old marks : List
 
 pub no_roots : (graph : AigGraph) (marks : List Bool) → ((p : ℕ) → bit_of marks p ≡ false) →
     AreRootMarks graph [] marks marks
-no_roots graph marks none = record {
-  exact = λ p. (
-    (λ h. absurd (false≢true (sym (none p) ∙ h))),
-    (λ r. let b = r.1.1 in absurd (omega arith)),
-  );
-  same_length = refl;
-}
+no_roots graph marks none = search (arith, false≢true)
 
 pub root_more : (graph : AigGraph) (nodes : List Node) (old marks more : List Bool) (i : ℕ) (d : Node) →
     i < length nodes → AreRootMarks graph (take i nodes) old marks →
@@ -157,25 +151,8 @@ pub handed_on : (graph : AigGraph) (g : ℕ) (s : Sides) (old mid new : List Boo
     ((p : ℕ) → ((bit_of mid p ≡ true) ↔ ((bit_of old p ≡ true) ⊎ (place_of graph.inputs s.left ≡ Some p)))) →
     ((p : ℕ) → ((bit_of new p ≡ true) ↔ ((bit_of mid p ≡ true) ⊎ (place_of graph.inputs s.right ≡ Some p)))) →
     HandsOn graph g old new
-handed_on graph g s old mid new at marked first second t at' p =
-    subst (λ x. ((bit_of new p ≡ true) ↔ ((bit_of old p ≡ true) ⊎
-    ((bit_of old (graph.inputs + g) ≡ true) × IsSidePlace graph x p)))) (some_is (sym at ∙ at')) (forth, back) where
-      forth : bit_of new p ≡ true → (bit_of old p ≡ true) ⊎ ((bit_of old (graph.inputs + g) ≡ true) × IsSidePlace
-          graph s p)
-      forth h = elim ((second p).0 h) [
-        | inl was ↦ elim ((first p).0 was) [ inl there ↦ inl there | inr l ↦ inr (marked, inl l) ]
-        | inr r ↦ inr (marked, inr r)
-      ]
-
-      back : (bit_of old p ≡ true) ⊎ ((bit_of old (graph.inputs + g) ≡ true) × IsSidePlace graph s p) →
-          bit_of new p ≡ true
-      back (inl h) = (second p).1 (inl ((first p).1 (inl h)))
-      back (inr h) = elim h.1 [ inl l ↦ (second p).1 (inl ((first p).1 (inr l))) | inr r ↦ (second p).1 (inr r) ]
+handed_on graph g s old mid new at marked first second t at' p = search (arith, some_is)
 
 pub not_handed_on : (graph : AigGraph) (g : ℕ) (marks : List Bool) → bit_of marks (graph.inputs + g) ≡ false →
     HandsOn graph g marks marks
-not_handed_on graph g marks unmarked s at p = ((λ h. inl h), back) where
-  back : (bit_of marks p ≡ true) ⊎ ((bit_of marks (graph.inputs + g) ≡ true) × IsSidePlace graph s p) →
-      bit_of marks p ≡ true
-  back (inl h) = h
-  back (inr h) = absurd (false≢true (sym unmarked ∙ h.0))
+not_handed_on graph g marks unmarked s at p = search (arith, false≢true)

@@ -7,7 +7,7 @@ use Rattle.list_laws.proofs.Folds.{below-differs}
 use Rattle.aig_graph.specs.declared.nodes.Node.{Node}
 use Rattle.aig_graph.specs.declared.nodes.Node.TheVariants.{Constant, Input, Gate}
 use Rattle.aig_graph.specs.declared.nodes.Sides.{Sides}
-use Rattle.aig_graph.specs.Graph.{AigGraph, with_sign, value_by, gate_value, node_value, support_by, gate_support, node_support, IsEarlierNode, IsNode, AreSides, AreGates, IsGraph, gate_at}
+use Rattle.aig_graph.specs.Graph.{AigGraph, value_by, gate_value, node_value, support_by, gate_support, node_support, IsEarlierNode, IsNode, AreSides, AreGates, IsGraph, gate_at}
 use Rattle.aig_graph.proofs.Numbered.{sides_are}
 use Rattle.aig_graph.specs.Made.{Extends, HasMore, IsMade, sides_of}
 
@@ -15,17 +15,13 @@ value_before : (m : ℕ → Bool) (inputs : ℕ) (s : Sides) (gates : List Sides
     IsEarlierNode inputs (length gates) n → value_by m (gate_value m (s ∷ gates)) n ≡ value_by m (gate_value m gates) n
 value_before m inputs s gates (Constant b) earlier = refl
 value_before m inputs s gates (Input i negated) earlier = refl
-value_before m inputs s gates (Gate g negated) earlier =
-    ap (with_sign negated) (cond-false (g == length gates) (value_by m (gate_value m gates) s.left && value_by m
-    (gate_value m gates) s.right) (gate_value m gates g) (below-differs g (length gates) earlier))
+value_before m inputs s gates (Gate g negated) earlier = search (arith, cond-false, below-differs)
 
 support_before : (inputs : ℕ) (s : Sides) (gates : List Sides) (n : Node) → IsEarlierNode inputs (length gates) n →
     support_by (gate_support (s ∷ gates)) n ≡ support_by (gate_support gates) n
 support_before inputs s gates (Constant b) earlier = refl
 support_before inputs s gates (Input i negated) earlier = refl
-support_before inputs s gates (Gate g negated) earlier =
-    cond-false (g == length gates) (support_by (gate_support gates) s.left ++ support_by (gate_support gates) s.right)
-    (gate_support gates g) (below-differs g (length gates) earlier)
+support_before inputs s gates (Gate g negated) earlier = search (arith, cond-false, below-differs)
 
 pub more_earlier : (inputs count more : ℕ) → count ≤ more → (n : Node) → IsEarlierNode inputs count n →
     IsEarlierNode inputs more n

@@ -43,8 +43,7 @@ module _ (old mid : AigGraph) (node : Node) (subs : List Node) (gates : List ℕ
     (lawful : IsGraph old) (cone : AreConeGates old node gates)
     (far : ArePutInFrom old mid subs gates made (at + 1)) (here : slice_get gates at ≡ Some g) where
   pub gate_within : g < length old.gates
-  gate_within = subst (λ h. h < length old.gates) (get_or_from_slice_get gates at g g here)
-      (cone.within at g (slice_get_within gates at g here))
+  gate_within = search (arith, get_or_from_slice_get, slice_get_within)
 
   -- an earlier gate stands behind this one
   earlier_made : (h : ℕ) → Contains gates h → h < g → HasPutIn mid subs made h
@@ -129,15 +128,12 @@ module _ (old mid : AigGraph) (node : Node) (subs : List Node) (gates : List ℕ
 -- all are made
 pub node_ready : (old mid : AigGraph) (node : Node) (subs : List Node) (gates : List ℕ) (made : BTreeMap ℕ Node) →
     AreConeGates old node gates → ArePutInFrom old mid subs gates made 0 → IsSubstituted mid subs made node
-node_ready old mid node subs gates made cone far g is =
-    let (k, below, at) = cone.root g is in
-    far.each k g (omega arith) (slice_get-get_or gates k g below ∙ ap Some at)
+node_ready old mid node subs gates made cone far g is = search (arith, slice_get-get_or)
 
 -- what is found was made of the gate
 pub found_made : (graph : AigGraph) (subs : List Node) (made : BTreeMap ℕ Node) (g : ℕ) (n : Node) →
     HasPutIn graph subs made g → Some n ≡ get nat_cmp made g → IsPutIn graph graph (Gate g false) subs n
-found_made graph subs made g n has found = subst (IsPutIn graph graph (Gate g false) subs)
-    (sym (some_is (found ∙ has.found))) has.put_in
+found_made graph subs made g n has found = search (arith, some_is)
 
 pub none_found : (graph : AigGraph) (subs : List Node) (made : BTreeMap ℕ Node) (g : ℕ) → HasPutIn graph subs made g →
     None ≡ get nat_cmp made g → ⊥

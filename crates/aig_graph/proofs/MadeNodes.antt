@@ -1,5 +1,5 @@
 -- What is made of what was made.
-use Rattle.std.proofs.Common.{◌≡◌, ℕ, ◌==◌, Bool, true, false, cond, not, ◌&&◌, ◌||◌, inl, inr, List, [], ◌∷◌, ◌++◌, length, Some, refl, sym, ◌∙◌, ap, subst}
+use Rattle.std.proofs.Common.{◌≡◌, ℕ, ◌==◌, Bool, true, false, cond, not, ◌&&◌, ◌||◌, inl, inr, List, [], ◌∷◌, ◌++◌, length, Some, refl, sym, ◌∙◌, ap, subst, arith}
 use Rattle.std.specs.Prelude.{Result, Ok, Err, OnOk, OnErr, IfOk}
 use Rattle.std.specs.List.{Contains, list_all}
 use Rattle.std.proofs.lemmas.Bool.{eq-eqb, cond-true}
@@ -21,12 +21,7 @@ pushed_grown (Ok n) old new s ok err = record {
   grown =
       ap (λ (g : AigGraph). g.gates) ok;
 }
-pushed_grown (Err e) old new s ok err = record {
-  inputs = ap (λ (g : AigGraph). g.inputs) err;
-  more = [];
-  grown =
-      ap (λ (g : AigGraph). g.gates) err;
-}
+pushed_grown (Err e) old new s ok err = search arith
 
 pub pushed_made : {E : Type 0} (result : Result Node E) (old new : AigGraph) (a b : Node) → IsGraph old → IsNode old a →
     IsNode old b → AreInner old.inputs a b →
@@ -185,6 +180,5 @@ pub if_xor : {E : Type 0} (result : Result Node E) (g0 g1 g2 g3 : AigGraph) (a b
     Extends g1 g2 → Extends g2 g3 → IsNode g0 a → IsNode g0 b → IsNegation a na → IsNegation b nb →
     IsMade (λ x y. x && y) g0 g1 a nb l → IsMade (λ x y. x && y) g1 g2 na b r →
     IfOk result (IsMade (λ x y. x || y) g2 g3 l r) → IfOk result (IsMade exclusive_or g0 g3 a b)
-if_xor (Ok n) g0 g1 g2 g3 a b na nb l r e1 e2 e3 is_a is_b va vb left right either =
-    xor_made g0 g1 g2 g3 a b na nb l r n e1 e2 e3 is_a is_b va vb left right either
+if_xor (Ok n) g0 g1 g2 g3 a b na nb l r e1 e2 e3 is_a is_b va vb left right either = search (arith, xor_made)
 if_xor (Err m) g0 g1 g2 g3 a b na nb l r e1 e2 e3 is_a is_b va vb left right either = tt

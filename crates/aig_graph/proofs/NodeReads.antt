@@ -1,5 +1,5 @@
 -- Marks of what a node reads.
-use Rattle.std.proofs.Common.{◌≡◌, ℕ, zero, suc, ◌+◌, ◌≤◌, ◌<◌, Bool, true, false, inl, inr, ◌⊎◌, List, ◌++◌, length, Some, Contains, refl, sym, ◌∙◌, ap, subst, arith}
+use Rattle.std.proofs.Common.{◌≡◌, ℕ, zero, suc, ◌+◌, ◌≤◌, ◌<◌, Bool, true, false, inl, inr, ◌⊎◌, List, ◌++◌, length, Some, Contains, sym, ◌∙◌, ap, subst, arith}
 use Rattle.std.specs.Prelude.{◌↔◌}
 use Rattle.std.proofs.lemmas.Bool.{false≢true}
 use Rattle.std.proofs.lemmas.List.Elements.{Contains-append_cases, Contains-append_left, Contains-append_right}
@@ -30,8 +30,7 @@ node_reaches : (graph : AigGraph) (count : ℕ) (marks : List Bool) (n : Node) �
 node_reaches graph count marks (Constant b) earlier marked i (k, below, is) = absurd (omega arith)
 node_reaches graph count marks (Input j negated) earlier marked i (zero, below, is) = inl (marked i (ap Some is))
 node_reaches graph count marks (Input j negated) earlier marked i (suc k, below, is) = absurd (omega arith)
-node_reaches graph count marks (Gate g negated) earlier marked i has =
-    inr (record { gate = g; below = earlier; marked = marked (graph.inputs + g) refl; reads = has })
+node_reaches graph count marks (Gate g negated) earlier marked i has = search arith
 
 -- what a node's place reaches, the node reads
 place_reads : (graph : AigGraph) (n : Node) (i : ℕ) → i < graph.inputs → place_of graph.inputs n ≡ Some i →
@@ -44,8 +43,7 @@ gate_reads : (graph : AigGraph) (n : Node) (g : ℕ) → IsEarlierNode graph.inp
     place_of graph.inputs n ≡ Some (graph.inputs + g) → node_support graph n ≡ gate_support graph.gates g
 gate_reads graph (Constant b) g earlier is = cc
 gate_reads graph (Input j negated) g earlier is = let e = some_is is in absurd (omega (arith, e, earlier))
-gate_reads graph (Gate h negated) g earlier is = let e = some_is is in let same : h ≡ g = omega (arith, e) in
-    ap (gate_support graph.gates) same
+gate_reads graph (Gate h negated) g earlier is = search (arith, some_is)
 
 pub sides_marked : (graph : AigGraph) (g : ℕ) (s : Sides) (old mid new : List Bool) → IsGraph graph →
     g < length graph.gates → gate_at graph.gates g ≡ Some s → AreSides graph.inputs g s →
@@ -134,54 +132,13 @@ sides_marked graph g s old mid new lawful inside at sides is_marked first second
         ]
       ]
 
-pub sides_unmarked : (graph : AigGraph) (g : ℕ) (marks : List Bool) → bit_of marks (graph.inputs + g) ≡ false →
-    (i : ℕ) → IsReached graph (g + 1) marks i ↔ IsReached graph g marks i
-sides_unmarked graph g marks unmarked i = (forth, back) where
-  by_number : (r : IsReadFrom graph (g + 1) marks i) → (r.gate < g) ⊎ (r.gate ≡ g) → IsReached graph g marks i
-  by_number r (inl below) = inr (record { gate = r.gate; below = below; marked = r.marked; reads = r.reads })
-  by_number r (inr is) = absurd (false≢true (sym unmarked ∙ ap (λ h. bit_of marks (graph.inputs + h)) (sym is)
-      ∙ r.marked))
-
-  forth : IsReached graph (g + 1) marks i → IsReached graph g marks i
-  forth (inl h) = inl h
-  forth (inr r) = by_number r (below_or_here r.gate g r.below)
-
-  back : IsReached graph g marks i → IsReached graph (g + 1) marks i
-  back (inl h) = inl h
-  back (inr r) = let below = r.below in inr (record {
-    gate = r.gate;
-    below = omega (arith, below);
-    marked = r.marked;
-    reads = r.reads;
-  })
-
 -- the node's place alone
 pub first_marks : (graph : AigGraph) (n : Node) (old cleared marks : List Bool) → IsNode graph n →
     ((p : ℕ) → bit_of cleared p ≡ false) → ((p : ℕ) → ((bit_of marks p ≡ true) ↔
     ((bit_of cleared p ≡ true) ⊎ (place_of graph.inputs n ≡ Some p)))) →
     length marks ≡ length old → AreMarks graph n old marks (gate_count n)
 first_marks graph n old cleared marks is_node none marked long =
-    record { reached = λ i small. (forth i small, back i); within = within n is_node; same_length = long } where
-      within : (m : Node) → IsNode graph m → gate_count m ≤ length graph.gates
-      within (Constant b) h = omega arith
-      within (Input j negated) h = omega arith
-      within (Gate g negated) h = omega (arith, h)
-
-      its_place : (p : ℕ) → bit_of marks p ≡ true → place_of graph.inputs n ≡ Some p
-      its_place p h = elim ((marked p).0 h) [ inl there ↦ absurd (false≢true (sym (none p) ∙ there)) | inr here ↦ here ]
-
-      forth : (i : ℕ) → i < graph.inputs → IsReached graph (gate_count n) marks i → Contains (node_support graph n) i
-      forth i small (inl h) = place_reads graph n i small (its_place i h)
-      forth i small (inr r) = subst (λ xs. Contains xs i) (sym (gate_reads graph n r.gate is_node
-          (its_place (graph.inputs + r.gate) r.marked))) r.reads
-
-      counted : (m : Node) → IsNode graph m → IsEarlierNode graph.inputs (gate_count m) m
-      counted (Constant b) h = tt
-      counted (Input j negated) h = h
-      counted (Gate g negated) h = omega arith
-
-      back : (i : ℕ) → Contains (node_support graph n) i → IsReached graph (gate_count n) marks i
-      back i has = node_reaches graph (gate_count n) marks n (counted n is_node) (λ p h. (marked p).1 (inr h)) i has
+    search (arith, false≢true, place_reads, gate_reads, node_reaches)
 
 pub marks_go_on : (graph : AigGraph) (n : Node) (old marks more : List Bool) (g : ℕ) →
     AreMarks graph n old marks (g + 1) → ((i : ℕ) → i < graph.inputs →

@@ -1,5 +1,5 @@
 -- The gates of a graph, by their numbers.
-use Rattle.std.proofs.Common.{◌≡◌, ◌≢◌, ℕ, suc, ◌-◌, ◌<◌, ◌==◌, Bool, true, false, cond, List, [], ◌∷◌, ◌++◌, reverse, length, take, drop, length-drop, get_or, Some, refl, sym, ◌∙◌, ap, subst, arith}
+use Rattle.std.proofs.Common.{◌≡◌, ◌≢◌, ℕ, ◌-◌, ◌<◌, ◌==◌, Bool, true, false, cond, List, [], ◌∷◌, ◌++◌, reverse, length, take, drop, length-drop, get_or, Some, refl, sym, ◌∙◌, ap, subst, arith}
 use Rattle.std.proofs.lemmas.Bool.{eqb-true, eq-eqb, false≢true}
 use Rattle.std.proofs.Math.Seq.{drop-append_seam}
 use Rattle.std.proofs.lemmas.List.{length-reverse, get_or-reverse, reverse-append, take-append-drop}
@@ -9,19 +9,7 @@ use Rattle.aig_graph.specs.Graph.{AigGraph, AreSides, AreGates, gate_at}
 gate_at_place : (gates : List Sides) (g : ℕ) (d : Sides) → g < length gates →
     gate_at gates g ≡ Some (get_or gates (length gates - 1 - g) d)
 gate_at_place [] g d below = absurd (omega arith)
-gate_at_place (s ∷ earlier) g d below = by_bit (g == length earlier) refl (gate_at_place earlier g d) where
-  by_bit : (b : Bool) → (g == length earlier) ≡ b → (g < length earlier →
-      gate_at earlier g ≡ Some (get_or earlier (length earlier - 1 - g) d)) →
-      cond b (Some s) (gate_at earlier g) ≡ Some (get_or (s ∷ earlier) (suc (length earlier) - 1 - g) d)
-  by_bit true e later =
-      let is = eqb-true g (length earlier) e in
-      let none : suc (length earlier) - 1 - g ≡ 0 = omega (arith, is) in
-      sym (ap (λ k. Some (get_or (s ∷ earlier) k d)) none)
-  by_bit false e later =
-      let differ : g ≢ length earlier = λ is. false≢true (sym e ∙ eq-eqb g (length earlier) is) in
-      let small : g < length earlier = omega (arith, below, differ) in
-      let one : suc (length earlier) - 1 - g ≡ suc (length earlier - 1 - g) = omega (arith, small) in
-      later small ∙ sym (ap (λ k. Some (get_or (s ∷ earlier) k d)) one)
+gate_at_place (s ∷ earlier) g d below = search (arith, (gate_at_place earlier g d), eqb-true, eq-eqb)
 
 -- as they are kept
 pub gate_at_kept : (graph : AigGraph) (inputs : ℕ) (kept : List Sides) (g : ℕ) (s : Sides) →
@@ -40,15 +28,7 @@ gate_at_kept graph inputs kept g s is below element =
 pub sides_are : (inputs : ℕ) (gates : List Sides) (g : ℕ) (s : Sides) → AreGates inputs gates →
     gate_at gates g ≡ Some s → AreSides inputs g s
 sides_are inputs [] g s all at = cc
-sides_are inputs (x ∷ earlier) g s all at = by_bit (g == length earlier) refl
-    (sides_are inputs earlier g s all.1) at where
-      by_bit : (b : Bool) → (g == length earlier) ≡ b → (gate_at earlier g ≡ Some s → AreSides inputs g s) →
-          cond b (Some x) (gate_at earlier g) ≡ Some s → AreSides inputs g s
-      by_bit true e later at =
-          let same : x ≡ s = cc in
-          subst (λ k. AreSides inputs k s) (sym (eqb-true g (length earlier) e))
-          (subst (AreSides inputs (length earlier)) same all.0)
-      by_bit false e later at = later at
+sides_are inputs (x ∷ earlier) g s all at = search (arith, (sides_are inputs earlier g s all.1), eqb-true)
 
 -- the gates added first
 pub gates_behind : (inputs : ℕ) (more gates : List Sides) → AreGates inputs (more ++ gates) → AreGates inputs gates

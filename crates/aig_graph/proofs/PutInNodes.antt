@@ -1,5 +1,5 @@
 -- What becomes of nodes where others are put in for the last inputs.
-use Rattle.std.proofs.Common.{◌≡◌, ℕ, ◌+◌, ◌-◌, ◌<◌, Bool, false, cond, ◌&&◌, inl, inr, List, ◌++◌, length, get_or, slice_get, Some, refl, sym, ◌∙◌, ap, subst, nat_lt}
+use Rattle.std.proofs.Common.{◌≡◌, ℕ, ◌+◌, ◌-◌, ◌<◌, Bool, false, cond, ◌&&◌, inl, inr, List, ◌++◌, length, get_or, slice_get, Some, refl, sym, ◌∙◌, ap, subst, nat_lt, arith}
 use Rattle.std.specs.List.{All, Contains}
 use Rattle.std.proofs.lemmas.Bool.{cases_lt}
 use Rattle.std.proofs.lemmas.List.{get_or_past}
@@ -16,10 +16,7 @@ use Rattle.aig_graph.proofs.LargerGraphs.{gate_value_at, gate_support_at, number
 -- as a graph grows
 module _ (g h : AigGraph) (e : Extends g h) (subs : List Node) (are : All (IsNode g) subs) where
   sub_node : (k : ℕ) → IsNode g (get_or subs k (Constant false))
-  sub_node k = elim (cases_lt k (length subs)) [
-    | inl below ↦ are k (Constant false) below
-    | inr past ↦ subst (IsNode g) (sym (get_or_past subs k (Constant false) past)) tt
-  ]
+  sub_node k = search (arith, cases_lt, get_or_past)
 
   value_same : (inputs : ℕ → Bool) (i : ℕ) → values_put_in h subs inputs i ≡ values_put_in g subs inputs i
   value_same inputs i =
@@ -33,22 +30,11 @@ module _ (g h : AigGraph) (e : Extends g h) (subs : List Node) (are : All (IsNod
   values_same inputs = λ j i. value_same inputs i j
 
   sub_at : (k : ℕ) (s : Node) → slice_get subs k ≡ Some s → IsNode g s
-  sub_at k s at = subst (IsNode g) (get_or_from_slice_get subs k s (Constant false) at)
-      (are k (Constant false) (slice_get_within subs k s at))
+  sub_at k s at = search (arith, get_or_from_slice_get, slice_get_within)
 
   read_forth : (node : Node) → IsNode g node → (i : ℕ) → IsReadThrough g node subs i → IsReadThrough h node subs i
-  read_forth node is i (inl (has, below)) = inl (
-    subst (λ xs. Contains xs i) (sym (e.supports node is)) has,
-    subst (λ n. i < n - length subs) (sym e.inputs) below,
-  )
-  read_forth node is i (inr r) = inr (record {
-    place = r.place;
-    sub = r.sub;
-    at = r.at;
-    put_in = subst (λ n. Contains (node_support h node) (n - length subs + r.place)) (sym e.inputs)
-        (subst (λ xs. Contains xs (g.inputs - length subs + r.place)) (sym (e.supports node is)) r.put_in);
-    reads = subst (λ xs. Contains xs i) (sym (e.supports r.sub (sub_at r.place r.sub r.at))) r.reads;
-  })
+  read_forth node is i (inl (has, below)) = search arith
+  read_forth node is i (inr r) = search (arith, sub_at)
 
   read_back : (node : Node) → IsNode g node → (i : ℕ) → IsReadThrough h node subs i → IsReadThrough g node subs i
   read_back node is i (inl (has, below)) = inl (

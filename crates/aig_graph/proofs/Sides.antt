@@ -1,5 +1,5 @@
 -- A gate beside one of its sides.
-use Rattle.std.proofs.Common.{◌≡◌, ℕ, Bool, true, false, not, ◌&&◌, inl, inr, Option, None, Some, refl, sym, ◌∙◌, ap, subst, arith}
+use Rattle.std.proofs.Common.{◌≡◌, ℕ, Bool, true, false, not, ◌&&◌, Option, None, Some, refl, sym, ◌∙◌, subst, arith}
 use Rattle.std.specs.Prelude.{IfSome}
 use Rattle.list_laws.proofs.Truths.{and_turned}
 use Rattle.aig_graph.specs.declared.nodes.Node.{Node}
@@ -28,11 +28,6 @@ same_side true true = refl
 same_side true false = refl
 same_side false r = refl
 
-opposite_side : (p r : Bool) → false ≡ ((p && r) && not p)
-opposite_side true true = refl
-opposite_side true false = refl
-opposite_side false r = refl
-
 negated_gate : (p r : Bool) → not p ≡ (not (p && r) && not p)
 negated_gate true true = refl
 negated_gate true false = refl
@@ -44,31 +39,11 @@ pub by_side_made : (graph : AigGraph) (g : ℕ) (negated : Bool) (part b : Node)
     ((m : ℕ → Bool) → gate_value m graph.gates g ≡ (node_value graph m part && rest m)) → (side : Beside) →
     IsBeside part b side →
     IfSome (node_by_side (Gate g negated) negated side b) (IsMade (λ x y. x && y) graph graph (Gate g negated) b)
-by_side_made graph g false part b rest is_gate is_b value Same is = record {
-  is_node = is_gate;
-  value = λ m. value m ∙ same_side (node_value graph m part) (rest m) ∙ ap (λ x. x && node_value graph m part)
-      (sym (value m)) ∙ ap (λ n. gate_value m graph.gates g && node_value graph m n) is;
-  reads = λ i has. inl has;
-}
-by_side_made graph g false part b rest is_gate is_b value Opposite is = record {
-  is_node = tt;
-  value = λ m. opposite_side (node_value graph m part) (rest m) ∙ ap (λ x. x && not (node_value graph m part))
-      (sym (value m))
-      ∙ ap (λ x. gate_value m graph.gates g && x) (sym (opposite_value graph m part)) ∙ ap
-      (λ n. gate_value m graph.gates g && node_value graph m n) (sym is);
-  reads = λ i has. absurd (let below = has.1 in omega arith);
-}
+by_side_made graph g false part b rest is_gate is_b value Same is = search (arith, same_side)
+by_side_made graph g false part b rest is_gate is_b value Opposite is = search (arith, opposite_value)
 by_side_made graph g false part b rest is_gate is_b value Apart is = tt
 by_side_made graph g true part b rest is_gate is_b value Same is = tt
-by_side_made graph g true part b rest is_gate is_b value Opposite is = record {
-  is_node = is_b;
-  value = λ m.
-      ap (node_value graph m) is ∙ opposite_value graph m part ∙ negated_gate (node_value graph m part) (rest m) ∙ ap
-      (λ x. not x && not (node_value graph m part)) (sym (value m))
-      ∙ ap (λ x. not (gate_value m graph.gates g) && x) (sym (opposite_value graph m part)) ∙ ap
-      (λ n. not (gate_value m graph.gates g) && node_value graph m n) (sym is);
-  reads = λ i has. inr has;
-}
+by_side_made graph g true part b rest is_gate is_b value Opposite is = search (arith, opposite_value, negated_gate)
 by_side_made graph g true part b rest is_gate is_b value Apart is = tt
 
 pub by_left : (graph : AigGraph) (g : ℕ) (negated : Bool) (s : Sides) (b : Node) → IsGraph graph →

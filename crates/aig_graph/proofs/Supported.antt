@@ -1,5 +1,5 @@
 -- A node's value depends on its support alone.
-use Rattle.std.proofs.Common.{◌≡◌, ℕ, ◌==◌, Bool, true, false, cond, ◌&&◌, List, [], ◌∷◌, ◌++◌, map, length, refl, ◌∙◌, ap, slice_index}
+use Rattle.std.proofs.Common.{◌≡◌, ℕ, ◌==◌, Bool, true, false, cond, ◌&&◌, List, [], ◌∷◌, ◌++◌, map, length, refl, ◌∙◌, ap, slice_index, arith}
 use Rattle.std.specs.List.{All}
 use Rattle.std.proofs.lemmas.List.Elements.{All-head, All-tail, All-cons, All-nil}
 use Rattle.dq_lits.specs.Formula.{Dqbf}
@@ -20,8 +20,7 @@ all_right P (x ∷ xs) ys h = all_right P xs ys (All-tail P x (xs ++ ys) h)
 
 all_mapped : (P : ℕ → Type 0) (h : ℕ → ℕ) (xs : List ℕ) → All P (map h xs) → All (λ x. P (h x)) xs
 all_mapped P h [] a = All-nil (λ x. P (h x))
-all_mapped P h (x ∷ xs) a = All-cons (λ y. P (h y)) x xs (All-head P (h x) (map h xs) a)
-    (all_mapped P h xs (All-tail P (h x) (map h xs) a))
+all_mapped P h (x ∷ xs) a = search (arith, All-cons, All-head, (all_mapped P h xs), All-tail)
 
 module _ (m n : ℕ → Bool) where
   abbrev Same : ℕ → Type 0
@@ -57,8 +56,7 @@ module _ (m n : ℕ → Bool) where
 
   pub node_same : (graph : AigGraph) (node : Node) → All Same (node_support graph node) →
       node_value graph m node ≡ node_value graph n node
-  node_same graph node all = value_same (gate_value m graph.gates) (gate_value n graph.gates) (gate_support graph.gates)
-      (gate_same graph.gates) node all
+  node_same graph node all = search (arith, value_same, gate_same)
 
 pub output_supported : (f : Dqbf) (graph : AigGraph) (node : Node) → IsSupported (node_output f graph node)
 output_supported f graph node m n all =

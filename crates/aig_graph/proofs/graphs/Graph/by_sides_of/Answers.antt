@@ -1,4 +1,4 @@
-use Rattle.std.proofs.Common.{Some}
+use Rattle.std.proofs.Common.{Some, arith}
 use Rattle.aig_graph.proofs.Sides.{by_left, by_right, answered}
 use Rattle.aig_graph.proofs.graphs.Graph.by_sides_of.Goals as goal
 
@@ -10,9 +10,4 @@ returns-in-Some c =
     c.sides-sides.ensures.at c.requires.b c.beside.result c.beside.ensures)
 
 pub returns-in-None : goal.returns-in-None
-returns-in-None c =
-    answered c.by_side-in-None.result c.args.self.now c.args.a c.in-Gate.g c.in-Gate.negated c.args.b
-    c.beside-in-None.result c.in-Gate.is c.by_side-in-None.ensures
-    (by_right c.args.self.now c.in-Gate.g c.in-Gate.negated c.sides-sides.result c.args.b
-    c.every_graph_is_lawful.ensures c.sides-sides.ensures.at c.requires.b c.beside-in-None.result
-    c.beside-in-None.ensures)
+returns-in-None c = search (arith, by_right)

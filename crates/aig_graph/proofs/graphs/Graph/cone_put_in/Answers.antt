@@ -21,9 +21,7 @@ gate_put_in-requires-clause-ready c =
     (there gates at c.index-g.result.now c.loop-at-test.true c.loop-at.invariant.within c.index-g.ensures)
 
 pub returns-in_err-n-clause-grown : goal.returns-in_err-n-clause-grown
-returns-in_err-n-clause-grown c =
-    more_more c.args.self.now c.loop-at.self c.gate_put_in.new.self c.loop-at.invariant.grown
-    c.gate_put_in.ensures.grown
+returns-in_err-n-clause-grown c = search (arith, more_more)
 
 pub loop-at-preserved : goal.loop-at-preserved
 loop-at-preserved c =
@@ -39,8 +37,7 @@ loop-at-preserved c =
     c.in_ok-n.ensures.put_in c.in_ok-insert.ensures.updates
 
 pub returns-in_err-insert-clause-grown : goal.returns-in_err-insert-clause-grown
-returns-in_err-insert-clause-grown c =
-    more_more c.args.self.now c.loop-at.self c.gate_put_in.new.self c.loop-at.invariant.grown c.in_ok-n.ensures.grown
+returns-in_err-insert-clause-grown c = search (arith, more_more)
 
 pub side_put_in-requires-clause-ready : goal.side_put_in-requires-clause-ready
 side_put_in-requires-clause-ready c =

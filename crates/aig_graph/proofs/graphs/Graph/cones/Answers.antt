@@ -17,7 +17,4 @@ loop-at-preserved c =
     c.mark_sides.ensures.hands_on c.mark_sides.ensures.same_length
 
 pub returns-clause-marked : goal.returns-clause-marked
-returns-clause-marked c =
-    let none : c.loop-at.at ≡ 0 = let test = c.loop-at-test.false in omega (arith, test) in
-    cones_marked c.args.self.now c.args.nodes.now c.args.marks.now c.loop-at.marks
-    (subst (AreCones c.args.self.now c.args.nodes.now c.args.marks.now c.loop-at.marks) none c.loop-at.invariant)
+returns-clause-marked c = search (arith, cones_marked)

@@ -1,4 +1,4 @@
-use Rattle.aig_graph.specs.Made.{sides_of}
+use Rattle.std.proofs.Common.{arith}
 use Rattle.aig_graph.proofs.MadeNodes.{pushed_grown, pushed_made}
 use Rattle.aig_graph.proofs.LargerGraphs.{gate_is_made}
 use Rattle.aig_graph.proofs.graphs.Graph.gate_in_order.Goals as goal
@@ -8,10 +8,7 @@ returns-in-Some-clause-made c = gate_is_made c.args.self.now c.every_graph_is_la
     c.args.b c.in-Some.ensures
 
 pub returns-in-None-clause-grown : goal.returns-in-None-clause-grown
-returns-in-None-clause-grown c = pushed_grown c.push.result c.args.self.now c.push.new.self
-    (sides_of c.args.a c.args.b) c.push.ensures.ok c.push.ensures.err
+returns-in-None-clause-grown c = search (arith, pushed_grown)
 
 pub returns-in-None-clause-made : goal.returns-in-None-clause-made
-returns-in-None-clause-made c =
-    pushed_made c.push.result c.args.self.now c.push.new.self c.args.a c.args.b c.every_graph_is_lawful.ensures
-    c.requires.a c.requires.b c.requires.inner c.push.ensures.node c.push.ensures.ok
+returns-in-None-clause-made c = search (arith, pushed_made)

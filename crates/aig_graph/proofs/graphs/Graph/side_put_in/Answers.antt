@@ -1,4 +1,4 @@
-use Rattle.std.proofs.Common.{ap}
+use Rattle.std.proofs.Common.{ap, arith}
 use Rattle.aig_graph.specs.Putting.{gate_of}
 use Rattle.aig_graph.proofs.MadeGates.{found_made, none_found}
 use Rattle.aig_graph.proofs.PutInNodes.{input_put, gate_side_put}
@@ -9,10 +9,7 @@ unreachable-requires c = none_found c.args.self.now c.args.subs.now c.args.made.
     (c.requires.ready c.in-Gate.g (ap gate_of c.in-Gate.is)) c.in-None.ensures.value
 
 pub returns-in-Input : goal.returns-in-Input
-returns-in-Input c =
-    input_put c.args.self.now c.args.subs.now c.in-Input.i c.in-Input.negated c.args.side c.input_put_in.result
-    c.signed.result c.in-Input.is c.input_put_in.ensures c.signed.ensures.node c.signed.ensures.value
-    c.signed.ensures.support
+returns-in-Input c = search (arith, input_put)
 
 pub returns-in-Some : goal.returns-in-Some
 returns-in-Some c =

@@ -1,11 +1,10 @@
-use Rattle.std.proofs.Common.{subst}
+use Rattle.std.proofs.Common.{subst, arith}
 use Rattle.aig_graph.specs.Graph.{IsGraph}
 use Rattle.aig_graph.proofs.Numbered.{gate_at_kept, sides_are}
 use Rattle.aig_graph.proofs.graphs.Graph.sides.Goals as goal
 
 pub returns-clause-at : goal.returns-clause-at
-returns-clause-at c = gate_at_kept c.args.self.now c.self.inside.inputs c.self.inside.gates.items c.args.g
-    c.index.result.now c.self.view_is c.requires c.index.ensures
+returns-clause-at c = search (arith, gate_at_kept)
 
 pub returns-clause-are_sides : goal.returns-clause-are_sides
 returns-clause-are_sides c =

@@ -1,12 +1,9 @@
-use Rattle.std.proofs.Common.{◌≡◌, ◌+◌, ◌-◌, sym, ◌∙◌, subst, arith}
+use Rattle.std.proofs.Common.{◌≡◌, ◌+◌, ◌-◌, subst, arith}
 use Rattle.aig_graph.proofs.NodeReads.{AreMarks, first_marks, marks_go_on}
 use Rattle.aig_graph.proofs.graphs.Graph.support.Goals as goal
 
 pub loop-at-init : goal.loop-at-init
-loop-at-init c =
-    subst (AreMarks c.args.self.now c.args.n c.args.marks.now c.mark.new.marks) (sym c.gates_up_to-at.ensures.value)
-    (first_marks c.args.self.now c.args.n c.args.marks.now c.clear.new.marks c.mark.new.marks c.requires.node
-    c.clear.ensures.none c.mark.ensures.marked (c.mark.ensures.same_length ∙ c.clear.ensures.same_length))
+loop-at-init c = search (arith, first_marks)
 
 pub loop-at-preserved : goal.loop-at-preserved
 loop-at-preserved c =

@@ -1,3 +1,4 @@
+use Rattle.std.proofs.Common.{arith}
 use Rattle.aig_graph.proofs.MadeNodes.{IsNegation, if_xor}
 use Rattle.aig_graph.proofs.LargerGraphs.{more_more}
 use Rattle.aig_graph.proofs.graphs.Graph.xor_gates.Goals as goal
@@ -10,10 +11,7 @@ and-requires-2-clause-a c = c.not-2.ensures.node c.and.new.self
     (c.in_ok-left.ensures.extends.nodes c.args.a c.requires.a)
 
 pub returns-clause-grown : goal.returns-clause-grown
-returns-clause-grown c =
-    more_more c.args.self.now c.and-2.new.self c.or.new.self
-    (more_more c.args.self.now c.and.new.self c.and-2.new.self c.in_ok-left.ensures.grown
-    c.in_ok-right.ensures.grown) c.or.ensures.grown
+returns-clause-grown c = search (arith, more_more)
 
 pub returns-clause-made : goal.returns-clause-made
 returns-clause-made c =
