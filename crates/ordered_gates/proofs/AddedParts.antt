@@ -1,5 +1,5 @@
 -- The gates of the ordered circuit, at their places.
-use Rattle.std.proofs.Common.{◌≡◌, ◌∙◌, ◌<◌, ℕ, length, get_or, ap, arith}
+use Rattle.std.proofs.Common.{◌≡◌, ◌<◌, ℕ, length, get_or, arith}
 use Rattle.std.proofs.lemmas.List.{get_or-map, length-map, get_or_default}
 use Rattle.circuit_plain.specs.Netlist.{Netlist, gate_at}
 use Rattle.ordered_gates.specs.Circuits.{ordered_gate, ordered_netlist}
@@ -8,8 +8,4 @@ use Rattle.ordered_gates.specs.Circuits.{ordered_gate, ordered_netlist}
 pub gate_there : (net : Netlist) (place : ℕ) → place < length net.gates →
     (place < length (ordered_netlist net).gates)
     × (get_or (ordered_netlist net).gates place (ordered_gate (gate_at net place)) ≡ ordered_gate (gate_at net place))
-gate_there net place below = (
-  omega (arith, below, length-map net.gates ordered_gate),
-  get_or-map ordered_gate net.gates place (gate_at net place) (ordered_gate (gate_at net place)) below
-      ∙ ap ordered_gate (get_or_default net.gates place _ _ below),
-)
+gate_there net place below = search (arith, length-map, get_or-map, get_or_default)

@@ -1,5 +1,5 @@
 -- Turned ids by division: the gate of a clause, and which of its three clauses it is.
-use Rattle.std.proofs.Common.{◌≡◌, ◌∙◌, ◌-◌, ◌*◌, ◌/◌, ◌%◌, ◌<◌, ◌≤◌, ℕ, zero, suc, Bool, cond, true, false, inl, inr, List, [], ◌∷◌, length, get_or, refl, sym, ap, arith}
+use Rattle.std.proofs.Common.{◌≡◌, ◌-◌, ◌*◌, ◌/◌, ◌%◌, ◌<◌, ◌≤◌, ℕ, zero, suc, Bool, true, false, List, [], ◌∷◌, length, get_or, refl, ap, arith}
 use Rattle.std.proofs.lemmas.Bool.{lt-ltb, cases_Bool, ltb-true}
 use Rattle.circuit_plain.specs.Netlist.{Netlist, gate_at}
 use Rattle.circuit_plain.specs.declared.circuits.Gate.{Gate}
@@ -10,8 +10,7 @@ place_past [] place past = refl
 place_past (g ∷ gates) zero past = absurd (omega (arith, past))
 place_past (g ∷ gates) (suc zero) past = absurd (omega (arith, past))
 place_past (g ∷ gates) (suc (suc zero)) past = refl
-place_past (g ∷ gates) (suc (suc (suc place))) past =
-    ap (λ p. suc (suc (suc p))) (place_past gates place (omega (arith, past)))
+place_past (g ∷ gates) (suc (suc (suc place))) past = search (arith, (place_past gates place))
 
 -- where a clause of a gate goes, by its place among the gate's
 abbrev moved : Bool → ℕ → ℕ → ℕ
@@ -30,26 +29,10 @@ moved_on true (suc (suc which)) place less = refl
 place_moved : (gates : List Gate) (place : ℕ) (d : Gate) → place < 3 * length gates →
     turned_place gates place ≡ moved (is_turned (get_or gates (place / 3) d)) (place % 3) place
 place_moved [] place d below = absurd (omega (arith, below))
-place_moved (g ∷ gates) zero d below = by_bit (is_turned g) where
-  by_bit : (b : Bool) → cond b 1 0 ≡ moved b 0 0
-  by_bit true = refl
-  by_bit false = refl
-place_moved (g ∷ gates) (suc zero) d below = by_bit (is_turned g) where
-  by_bit : (b : Bool) → cond b 0 1 ≡ moved b 1 1
-  by_bit true = refl
-  by_bit false = refl
-place_moved (g ∷ gates) (suc (suc zero)) d below = by_bit (is_turned g) where
-  by_bit : (b : Bool) → 2 ≡ moved b 2 2
-  by_bit true = refl
-  by_bit false = refl
-place_moved (g ∷ gates) (suc (suc (suc place))) d below =
-    let gate : suc (suc (suc place)) / 3 ≡ suc (place / 3) = omega arith in
-    let which : suc (suc (suc place)) % 3 ≡ place % 3 = omega arith in
-    ap (λ p. suc (suc (suc p))) (place_moved gates place d (omega (arith, below)))
-    ∙ moved_on (is_turned (get_or gates (place / 3) d)) (place % 3) place (omega arith)
-    ∙ ap (λ k. moved (is_turned (get_or (g ∷ gates) k d)) (place % 3) (suc (suc (suc place)))) (sym gate)
-    ∙ ap (λ k. moved (is_turned (get_or (g ∷ gates) (suc (suc (suc place)) / 3) d)) k (suc (suc (suc place))))
-    (sym which)
+place_moved (g ∷ gates) zero d below = search arith
+place_moved (g ∷ gates) (suc zero) d below = search arith
+place_moved (g ∷ gates) (suc (suc zero)) d below = search arith
+place_moved (g ∷ gates) (suc (suc (suc place))) d below = search (arith, (place_moved gates place d))
 
 -- ---- ids
 
@@ -58,31 +41,17 @@ from_place gates zero some = absurd (omega (arith, some))
 from_place gates (suc place) some = ap (λ p. suc (turned_place gates p)) (omega arith)
 
 pub id_past : (gates : List Gate) (id : ℕ) → 1 ≤ id → length gates ≤ (id - 1) / 3 → id ≡ turned_id gates id
-id_past gates id some past =
-    let is = from_place gates id some in
-    omega (arith, place_past gates (id - 1) (omega (arith, past)), is, some)
+id_past gates id some past = search (arith, from_place, place_past)
 
 id_moved : (net : Netlist) (id : ℕ) → 1 ≤ id → (id - 1) / 3 < length net.gates →
     turned_id net.gates id ≡ suc (moved (is_turned (gate_at net ((id - 1) / 3))) ((id - 1) % 3) (id - 1))
-id_moved net id some below =
-    from_place net.gates id some ∙ ap suc (place_moved net.gates (id - 1) _ (omega (arith, below)))
+id_moved net id some below = search (arith, from_place, place_moved)
 
 pub id_straight : (net : Netlist) (id : ℕ) → 1 ≤ id → (id - 1) / 3 < length net.gates →
     (gate_at net ((id - 1) / 3)).right ≤ (gate_at net ((id - 1) / 3)).left → id ≡ turned_id net.gates id
-id_straight net id some below greater =
-    elim (cases_Bool (is_turned (gate_at net ((id - 1) / 3)))) [
-      | inl turns ↦ absurd (omega (arith, ltb-true (gate_at net ((id - 1) / 3)).left (gate_at net ((id - 1) / 3)).right turns, greater))
-      | inr stays ↦
-          let is = id_moved net id some below
-          ∙ ap (λ b. suc (moved b ((id - 1) % 3) (id - 1))) stays in
-          omega (arith, is, some)
-    ]
+id_straight net id some below greater = search (arith, cases_Bool, ltb-true, id_moved)
 
 pub id_turned_by : (net : Netlist) (id : ℕ) → 1 ≤ id → (id - 1) / 3 < length net.gates →
     (gate_at net ((id - 1) / 3)).left < (gate_at net ((id - 1) / 3)).right →
     (which : ℕ) → (id - 1) % 3 ≡ which → turned_id net.gates id ≡ suc (moved true which (id - 1))
-id_turned_by net id some below lesser which is =
-    id_moved net id some below
-    ∙ ap (λ b. suc (moved b ((id - 1) % 3) (id - 1)))
-    (lt-ltb (gate_at net ((id - 1) / 3)).left (gate_at net ((id - 1) / 3)).right lesser)
-    ∙ ap (λ k. suc (moved true k (id - 1))) is
+id_turned_by net id some below lesser which is = search (arith, id_moved, lt-ltb)

@@ -1,5 +1,5 @@
 -- Files with ordered gates: what texts can hold them, and their proofs.
-use Rattle.std.proofs.Common.{◌≡◌, ◌==◌, nat_lt, ◌+◌, ◌*◌, ◌<◌, ◌∙◌, ℕ, Bool, cond, true, false, inl, inr, List, [], ◌∷◌, map, length, refl, sym, ap, subst, arith}
+use Rattle.std.proofs.Common.{◌≡◌, ◌==◌, nat_lt, ◌+◌, ◌∙◌, ℕ, true, false, inl, inr, List, [], ◌∷◌, map, length, refl, sym, subst, arith}
 use Rattle.std.specs.List.{Contains, range_with_len}
 use Rattle.std.proofs.lemmas.Bool.{and_parts, eqb-true, ltb-true, ltb-false}
 use Rattle.std.proofs.lemmas.List.{length-map}
@@ -16,11 +16,10 @@ use Rattle.cert_text.specs.Numbering.{numbered_from}
 use Rattle.cert_text.specs.ProofGrammar.{IsDqpOf}
 use Rattle.cert_text.specs.declared.circuit_proofs.Dqp.{Dqp}
 use Rattle.proof_checker.specs.ProvedCircuit.{IsProvedCircuit}
-use Rattle.ordered_gates.specs.Circuits.{is_turned, is_sorted_gate, are_from, are_sorted, is_sorted, ordered_gate, ordered_netlist, ordered_file, ordered_proof}
+use Rattle.ordered_gates.specs.Circuits.{is_sorted_gate, are_from, are_sorted, is_sorted, ordered_gate, ordered_netlist, ordered_file, ordered_proof}
 use Rattle.ordered_gates.proofs.OrderedItems.{begin_behind, items_behind}
 use Rattle.ordered_gates.proofs.OrderedNetlists.{ordered_variable, ordered_by, ordered_is_netlist, all_grounded, ordered_complete, ordered_skolem}
 use Rattle.ordered_gates.proofs.TurnedFaults.{negated_alike, items_same}
-use Rattle.ordered_gates.proofs.Twins.{turned}
 
 pub proved : (f : Dqbf) (file : AagFile) (proof : Dqp) → IsProvedCircuit f file proof → IsDqpOf f file.circuit proof →
     IsProvedCircuit f (ordered_file file) (ordered_proof file.circuit proof)
@@ -40,9 +39,7 @@ proved f file proof is allowed = record {
 variables_same : (gates : List Gate) →
     map variable_of_gate (map ordered_gate gates) ≡ map variable_of_gate gates
 variables_same [] = refl
-variables_same (g ∷ gates) =
-    ap (λ v. v ∷ map variable_of_gate (map ordered_gate gates)) (ordered_variable g)
-    ∙ ap (λ vs. g.variable ∷ vs) (variables_same gates)
+variables_same (g ∷ gates) = search (arith, ordered_variable, (variables_same gates))
 
 -- a literal has a meaning by the variables that are defined, and these stay
 pub spellable : (file : AagFile) → IsSpellable file → IsSpellable (ordered_file file)
@@ -76,23 +73,7 @@ spellable file is = record {
         inr (inr (subst (λ vs. Contains vs (literal_variable l)) (sym (variables_same net.gates)) gate))
 
 gate_in_order : (v : ℕ) (g : Gate) → is_sorted_gate v g ≡ true → IsGateInOrder v (ordered_gate g)
-gate_in_order v g sorted = by_bit (is_turned g) refl where
-  variable : g.variable ≡ v
-  variable = eqb-true g.variable v (and_parts (g.variable == v) _ sorted).0
-
-  sides : (g.left < 2 * v) × (g.right < 2 * v)
-  sides =
-      let both = and_parts (nat_lt g.left (2 * v)) (nat_lt g.right (2 * v))
-      (and_parts (g.variable == v) _ sorted).1 in
-      (ltb-true g.left (2 * v) both.0, ltb-true g.right (2 * v) both.1)
-
-  by_bit : (b : Bool) → is_turned g ≡ b → IsGateInOrder v (cond b (turned g) g)
-  by_bit true e = record {
-    variable = variable;
-    left = sides.1;
-    right = (omega (arith, ltb-true g.left g.right e));
-  }
-  by_bit false e = record { variable = variable; left = sides.0; right = ltb-false g.left g.right e }
+gate_in_order v g sorted = search (arith, eqb-true, and_parts, nat_lt, ltb-true, ltb-false)
 
 in_order : (v : ℕ) (gates : List Gate) → are_sorted v gates ≡ true → AreInOrder v (map ordered_gate gates)
 in_order v [] sorted = tt
@@ -102,9 +83,7 @@ in_order v (g ∷ gates) sorted =
 
 numbers_from : (n : ℕ) (vs : List ℕ) → are_from n vs ≡ true → vs ≡ range_with_len n (length vs)
 numbers_from n [] are = refl
-numbers_from n (v ∷ vs) are =
-    let both = and_parts (v == n) (are_from (n + 1) vs) are in
-    ap (λ w. w ∷ vs) (eqb-true v n both.0) ∙ ap (λ ws. n ∷ ws) (numbers_from (n + 1) vs both.1)
+numbers_from n (v ∷ vs) are = search (arith, and_parts, eqb-true, (numbers_from (n + 1) vs))
 
 pub sorted_in_order : (net : Netlist) → is_sorted net ≡ true →
     AreInOrder (length net.inputs + 1) (ordered_netlist net).gates

@@ -1,5 +1,5 @@
 -- What a text can hold as a proof over a circuit, it can hold over the ordered one.
-use Rattle.std.proofs.Common.{◌≡◌, ◌∙◌, ◌+◌, ◌*◌, ◌<◌, ◌≤◌, ◌||◌, ◌==◌, ℕ, Bool, true, false, not, inl, inr, List, [], ◌∷◌, map, length, refl, sym, ap, subst, arith}
+use Rattle.std.proofs.Common.{◌≡◌, ◌∙◌, ◌+◌, ◌*◌, ◌<◌, ◌≤◌, ◌==◌, ℕ, Bool, true, not, List, [], ◌∷◌, map, length, refl, sym, ap, subst, arith}
 use Rattle.std.specs.List.{All, AllByRecursion, range_with_len, sum_by}
 use Rattle.std.proofs.lemmas.Bool.{and_parts, eqb-true, true≢false}
 use Rattle.std.proofs.lemmas.List.{length-map}
@@ -9,7 +9,7 @@ use Rattle.dq_lits.specs.Formula.{Dqbf}
 use Rattle.circuit_plain.specs.Netlist.{Netlist}
 use Rattle.circuit_plain.specs.declared.circuits.Gate.{Gate}
 use Rattle.rup_core.specs.Items.{ProofItem, derived, gone}
-use Rattle.cert_text.specs.CircuitProof.{is_proof_variable, first_proof_id}
+use Rattle.cert_text.specs.CircuitProof.{first_proof_id}
 use Rattle.cert_text.specs.Grammar.{IsSmallItem, AreItems}
 use Rattle.cert_text.specs.Numbering.{Numbering, numbered_from, with_next, without, are_live, without_all}
 use Rattle.cert_text.specs.ProofGrammar.{IsDqpOf}
@@ -27,10 +27,7 @@ module _ (gates : List Gate) where
 
   hint_before : (hint next : ℕ) → 3 * length gates < next → (1 ≤ hint) × (hint < next) →
       (1 ≤ turned_id gates hint) × (turned_id gates hint < next)
-  hint_before hint next behind (some, less) = elim (id_turned gates hint) [
-    | inl same ↦ (omega (arith, same, some), omega (arith, same, less))
-    | inr both ↦ (both.2, (omega (arith, both.3, behind)))
-  ]
+  hint_before hint next behind (some, less) = search (arith, id_turned)
 
   -- ---- what is deleted
 
@@ -38,10 +35,7 @@ module _ (gates : List Gate) where
   live_without n id other live = (and_parts (not (other == id)) (n.live other) live).1
 
   without_behind : (n : Numbering) (id : ℕ) → IsBehindGates n → IsBehindGates (without n id)
-  without_behind n id is = record {
-    next = is.next;
-    live = λ other live. is.live other (live_without n id other live);
-  }
+  without_behind n id is = search (arith, live_without)
 
   all_without_behind : (n : Numbering) (ids : List ℕ) → IsBehindGates n → IsBehindGates (without_all n ids)
   all_without_behind n [] is = is
@@ -57,13 +51,7 @@ module _ (gates : List Gate) where
   -- ---- the items
 
   next_behind : (n : Numbering) → IsBehindGates n → IsBehindGates (with_next n)
-  next_behind n is = record { next = (omega (arith, is.next)); live = live } where
-    by_bit : (id : ℕ) (b : Bool) → (id == n.next) ≡ b → (b || n.live id) ≡ true → 3 * length gates < id
-    by_bit id true e h = omega (arith, eqb-true id n.next e, is.next)
-    by_bit id false e h = is.live id h
-
-    live : (id : ℕ) → (with_next n).live id ≡ true → 3 * length gates < id
-    live id h = by_bit id (id == n.next) refl h
+  next_behind n is = search (arith, eqb-true)
 
   pub items_behind : (is_variable : ℕ → Bool) (n : Numbering) (items : List ProofItem) → IsBehindGates n →
       AreItems is_variable n items → AllByRecursion (IsBehind gates) items
@@ -100,8 +88,7 @@ module _ (gates : List Gate) where
 
   pub ordered_are_small : (items : List ProofItem) → All IsSmallItem items →
       All IsSmallItem (map (ordered_item gates) items)
-  ordered_are_small items small = All-map IsSmallItem (ordered_item gates) items
-      (All-weaker IsSmallItem (λ item. IsSmallItem (ordered_item gates item)) small_item items small)
+  ordered_are_small items small = search (arith, All-map, All-weaker, small_item)
 
 pub begin_behind : (f : Dqbf) (net : Netlist) → IsBehindGates net.gates (numbered_from (first_proof_id f net))
 begin_behind f net = record { next = omega arith; live = λ id live. absurd (true≢false (sym live)) }
@@ -111,14 +98,8 @@ same_first f net = ap (λ n. 3 * n + sum_by length f.matrix + 1 + 1) (length-map
 
 pub ordered_allowed : (f : Dqbf) (net : Netlist) (proof : Dqp) → IsDqpOf f net proof →
     IsDqpOf f (ordered_netlist net) (ordered_proof net proof)
-ordered_allowed f net proof is = record {
-  few_items = (omega (arith, length-map proof.items (ordered_item net.gates), is.few_items));
-  items = subst (λ first. AreItems (is_proof_variable f net) (numbered_from first)
-      (map (ordered_item net.gates) proof.items)) (sym (same_first f net))
-      (ordered_are_items net.gates (is_proof_variable f net) (numbered_from (first_proof_id f net)) proof.items
-      (begin_behind f net) is.items);
-  small = ordered_are_small net.gates proof.items is.small;
-}
+ordered_allowed f net proof is =
+    search (arith, length-map, same_first, ordered_are_items, begin_behind, ordered_are_small)
 
 -- ---- numbered lines
 

@@ -1,5 +1,5 @@
 -- Items are ordered one by one.
-use Rattle.std.proofs.Common.{◌≡◌, ◌∙◌, ◌+◌, ◌<◌, ◌++◌, ◌∷◌, [], ℕ, List, map, take, length, Some, sym, ap, subst}
+use Rattle.std.proofs.Common.{◌≡◌, ◌∙◌, ◌+◌, ◌<◌, ◌++◌, ◌∷◌, [], ℕ, List, map, take, length, Some, sym, ap, arith}
 use Rattle.std.specs.List.{All, slice_get}
 use Rattle.std.proofs.lemmas.List.{map-append, take_more}
 use Rattle.std.proofs.lemmas.Option.{get_or_from_slice_get}
@@ -10,8 +10,7 @@ use Rattle.ordered_gates.specs.Circuits.{ordered_item}
 
 pub line_id : (items : List ProofItem) (place : ℕ) (item : ProofItem) → All HasLineId items → place < length items →
     slice_get items place ≡ Some item → HasLineId item
-line_id items place item all below is =
-    subst HasLineId (get_or_from_slice_get items place item item is) (all place item below)
+line_id items place item all below is = search (arith, get_or_from_slice_get)
 
 pub item_added : (gates : List Gate) (items old new : List ProofItem) (place : ℕ) (item : ProofItem) →
     place < length items → slice_get items place ≡ Some item → old ≡ map (ordered_item gates) (take place items) →

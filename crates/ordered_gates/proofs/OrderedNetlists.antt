@@ -1,5 +1,5 @@
 -- A circuit's gates ordered are a netlist with the same values.
-use Rattle.std.proofs.Common.{◌≡◌, ◌≢◌, ◌∙◌, ◌<◌, ◌⊎◌, ℕ, Bool, cond, true, false, inl, inr, map, length, get_or, refl, sym, ap, subst, arith}
+use Rattle.std.proofs.Common.{◌≡◌, ◌≢◌, ◌∙◌, ◌<◌, ◌⊎◌, ℕ, Bool, inl, inr, map, length, get_or, refl, sym, ap, arith}
 use Rattle.std.specs.List.{All, Contains}
 use Rattle.std.proofs.lemmas.List.{get_or-map, length-map}
 use Rattle.std.proofs.lemmas.List.Elements.{All-map, All-weaker, Contains-get_or}
@@ -11,35 +11,23 @@ use Rattle.circuit_plain.specs.declared.circuits.Gate.{Gate}
 use Rattle.aiger_text.specs.declared.files.AagFile.{AagFile}
 use Rattle.skolem_checker.specs.Mapping.{Mapping}
 use Rattle.skolem_checker.specs.SkolemCircuit.{IsComplete, MappedCircuit, HasOutputValue, ReadsUniversal, FollowsCircuit, IsSkolemCircuit}
-use Rattle.ordered_gates.specs.Circuits.{is_turned, ordered_gate, ordered_netlist}
+use Rattle.ordered_gates.specs.Circuits.{ordered_gate, ordered_netlist}
 use Rattle.ordered_gates.proofs.Twins.{turned, Twin, grounded, reaches, values}
 
 -- ---- gates
 
 pub ordered_variable : (g : Gate) → (ordered_gate g).variable ≡ g.variable
-ordered_variable g = by_bit (is_turned g) where
-  by_bit : (b : Bool) → (cond b (turned g) g).variable ≡ g.variable
-  by_bit true = refl
-  by_bit false = refl
+ordered_variable g = search arith
 
 -- a property of gates that doesn't see the order of sides
 pub ordered_by : (P : Gate → Type 0) → ((g : Gate) → P g → P (turned g)) → (g : Gate) → P g → P (ordered_gate g)
-ordered_by P turns g h = by_bit (is_turned g) where
-  by_bit : (b : Bool) → P (cond b (turned g) g)
-  by_bit true = turns g h
-  by_bit false = h
+ordered_by P turns g h = search arith
 
 is_or_turned : (g : Gate) → (ordered_gate g ≡ g) ⊎ (ordered_gate g ≡ turned g)
-is_or_turned g = by_bit (is_turned g) where
-  by_bit : (b : Bool) → (cond b (turned g) g ≡ g) ⊎ (cond b (turned g) g ≡ turned g)
-  by_bit true = inr refl
-  by_bit false = inl refl
+is_or_turned g = search arith
 
 or_turned_is : (g : Gate) → (g ≡ ordered_gate g) ⊎ (g ≡ turned (ordered_gate g))
-or_turned_is g = by_bit (is_turned g) where
-  by_bit : (b : Bool) → (g ≡ cond b (turned g) g) ⊎ (g ≡ turned (cond b (turned g) g))
-  by_bit true = inr refl
-  by_bit false = inl refl
+or_turned_is g = search arith
 
 module _ (net : Netlist) where
   twin_before : (h : Gate) → Contains (ordered_netlist net).gates h → Twin net h
@@ -100,11 +88,7 @@ module _ (net : Netlist) where
 
   pub all_grounded : All (λ g. IsGrounded net g.variable) net.gates →
       All (λ g. IsGrounded (ordered_netlist net) g.variable) (ordered_netlist net).gates
-  all_grounded all = All-map (λ g. IsGrounded (ordered_netlist net) g.variable) ordered_gate net.gates
-      (All-weaker (λ g. IsGrounded net g.variable)
-      (λ g. IsGrounded (ordered_netlist net) (ordered_gate g).variable)
-      (λ g h. subst (IsGrounded (ordered_netlist net)) (sym (ordered_variable g)) (ordered_grounded g.variable h))
-      net.gates all)
+  all_grounded all = search (arith, All-map, All-weaker, ordered_variable, ordered_grounded)
 
   pub ordered_complete : IsComplete net → IsComplete (ordered_netlist net)
   ordered_complete is = record {

@@ -1,5 +1,5 @@
 -- A clause of three literals has the same status with the last two exchanged.
-use Rattle.std.proofs.Common.{◌≡◌, ◌∙◌, ◌==◌, ◌&&◌, ◌||◌, ℕ, Bool, cond, true, false, not, inl, inr, List, [], ◌∷◌, ◌++◌, map, None, Some, refl, sym, ap, subst}
+use Rattle.std.proofs.Common.{◌≡◌, ◌∙◌, ◌==◌, ◌&&◌, ◌||◌, ℕ, Bool, cond, true, false, not, inl, inr, List, [], ◌∷◌, ◌++◌, map, None, Some, refl, sym, ap, subst, arith}
 use Rattle.std.specs.List.{filter, list_any}
 use Rattle.std.proofs.lemmas.Bool.{cases_Bool}
 use Rattle.std.proofs.lemmas.List.{map-append}
@@ -31,13 +31,7 @@ short_of trues l = by_bit (not (l == 0)) where
 
 left_append : (trues : List Literal) (xs ys : List ℕ) →
     left_of trues (xs ++ ys) ≡ left_of trues xs ++ left_of trues ys
-left_append trues xs ys =
-    ap (λ ks. filter (λ l. not (holds trues (opposite l))) (map as_literal ks))
-    (filter-append (λ l. not (l == 0)) xs ys)
-    ∙ ap (filter (λ l. not (holds trues (opposite l))))
-    (map-append as_literal (filter (λ l. not (l == 0)) xs) (filter (λ l. not (l == 0)) ys))
-    ∙ filter-append (λ l. not (holds trues (opposite l))) (map as_literal (filter (λ l. not (l == 0)) xs))
-    (map as_literal (filter (λ l. not (l == 0)) ys))
+left_append trues xs ys = search (arith, filter-append, map-append)
 
 parts : (trues : List Literal) (a x y : ℕ) → left_of trues (a ∷ x ∷ y ∷ [])
     ≡ left_of trues (a ∷ []) ++ (left_of trues (x ∷ []) ++ left_of trues (y ∷ []))

@@ -1,14 +1,14 @@
 -- A proof's fault is the same over the ordered circuit.
-use Rattle.std.proofs.Common.{◌≡◌, ◌==◌, ◌+◌, ◌*◌, ◌<◌, ◌∙◌, ◌++◌, ℕ, zero, suc, Bool, cond, true, false, List, [], ◌∷◌, map, length, Option, None, Some, refl, ap}
+use Rattle.std.proofs.Common.{◌≡◌, ◌==◌, ◌+◌, ◌*◌, ◌<◌, ◌∙◌, ◌++◌, ℕ, zero, suc, Bool, cond, true, false, List, [], ◌∷◌, map, length, Option, Some, refl, ap, arith}
 use Rattle.std.specs.List.{AllByRecursion, flat_map, slice_get}
 use Rattle.std.specs.Option.{option_and_then}
 use Rattle.dq_lits.specs.Formula.{Dqbf}
-use Rattle.dq_lits.specs.Literal.{Literal, opposite}
-use Rattle.dq_lits.specs.Derivation.{LiveClauses, ClauseStatus, falsified, unit, stuck, status_of, fault_by, hint_fault, is_tautology, line_fault, with_clause, ProofFault, fault_of_step, is_empty}
+use Rattle.dq_lits.specs.Literal.{Literal}
+use Rattle.dq_lits.specs.Derivation.{LiveClauses, ClauseStatus, falsified, unit, stuck, status_of, fault_by, hint_fault, line_fault, with_clause, ProofFault, fault_of_step, is_empty}
 use Rattle.circuit_plain.specs.Netlist.{Netlist}
 use Rattle.circuit_plain.specs.declared.circuits.Gate.{Gate}
-use Rattle.rup_core.specs.Items.{ProofItem, derived, gone, is_among, without_clauses, items_fault}
-use Rattle.cert_text.specs.NegatedMatrix.{opposite_of, gate_clauses, without_constants, negated_matrix, all_falsity_clauses, some_clause_false}
+use Rattle.rup_core.specs.Items.{ProofItem, derived, gone, without_clauses, items_fault}
+use Rattle.cert_text.specs.NegatedMatrix.{opposite_of, gate_clauses, without_constants, negated_matrix}
 use Rattle.ordered_gates.specs.Circuits.{is_turned, ordered_gate, ordered_netlist, turned_place, turned_id, ordered_item}
 use Rattle.ordered_gates.proofs.SwappedClauses.{swapped}
 use Rattle.ordered_gates.proofs.TurnedIds.{AreBehind, turned_same, among_same}
@@ -24,16 +24,8 @@ same_status : (trues : List Literal) (rest : List (List ℕ)) (gates : List Gate
     status_of trues (clause_in (map ordered_gate gates) rest (turned_place gates place))
     ≡ status_of trues (clause_in gates rest place)
 same_status trues rest [] place = refl
-same_status trues rest (g ∷ gates) zero = by_bit (is_turned g) where
-  by_bit : (b : Bool) → status_of trues (clause_in (cond b (turned g) g ∷ map ordered_gate gates) rest (cond b 1 0))
-      ≡ status_of trues (clause_in (g ∷ gates) rest 0)
-  by_bit true = refl
-  by_bit false = refl
-same_status trues rest (g ∷ gates) (suc zero) = by_bit (is_turned g) where
-  by_bit : (b : Bool) → status_of trues (clause_in (cond b (turned g) g ∷ map ordered_gate gates) rest (cond b 0 1))
-      ≡ status_of trues (clause_in (g ∷ gates) rest 1)
-  by_bit true = refl
-  by_bit false = refl
+same_status trues rest (g ∷ gates) zero = search arith
+same_status trues rest (g ∷ gates) (suc zero) = search arith
 same_status trues rest (g ∷ gates) (suc (suc zero)) = by_bit (is_turned g) where
   by_bit : (b : Bool) → status_of trues (clause_in (cond b (turned g) g ∷ map ordered_gate gates) rest 2)
       ≡ status_of trues (clause_in (g ∷ gates) rest 2)
@@ -49,9 +41,7 @@ StandAlike gates live other =
 pub negated_alike : (f : Dqbf) (net : Netlist) (circuit_literal : ℕ → ℕ) →
     StandAlike net.gates (negated_matrix f net circuit_literal) (negated_matrix f (ordered_netlist net) circuit_literal)
 negated_alike f net circuit_literal zero trues = refl
-negated_alike f net circuit_literal (suc place) trues =
-    same_status trues (all_falsity_clauses circuit_literal (net.max_var + 1) f.matrix
-    ++ some_clause_false net f.matrix ∷ []) net.gates place
+negated_alike f net circuit_literal (suc place) trues = search (arith, same_status)
 
 -- ---- the lines
 
@@ -78,9 +68,7 @@ module _ (gates : List Gate) where
 
   line_same : (live other : LiveClauses) (literals : List Literal) (hints : List ℕ) → StandAlike gates live other →
       line_fault other literals (map (turned_id gates) hints) ≡ line_fault live literals hints
-  line_same live other literals hints alike =
-      ap (λ (o : Option ℕ). cond (is_tautology literals) (Some 0) o)
-      (hints_same live other (map opposite literals) 1 hints alike)
+  line_same live other literals hints alike = search (arith, hints_same)
 
   with_line : (live other : LiveClauses) (line : ℕ) (literals : List Literal) → 3 * length gates < line →
       StandAlike gates live other → StandAlike gates (with_clause live line literals) (with_clause other line literals)
@@ -96,15 +84,7 @@ module _ (gates : List Gate) where
 
   without_ids : (live other : LiveClauses) (ids : List ℕ) → AreBehind (3 * length gates) ids →
       StandAlike gates live other → StandAlike gates (without_clauses live ids) (without_clauses other ids)
-  without_ids live other ids behind alike id trues =
-      ap (λ (b : Bool). status_of trues (cond b None (other (turned_id gates id))))
-      (among_same gates ids id behind)
-      ∙ by_bit (is_among ids id)
-    where
-      by_bit : (b : Bool) → status_of trues (cond b None (other (turned_id gates id)))
-          ≡ status_of trues (cond b None (live id))
-      by_bit true = refl
-      by_bit false = alike id trues
+  without_ids live other ids behind alike id trues = search (arith, among_same)
 
   -- lines and deletions of lines
   abbrev pub IsBehind : ProofItem → Type 0

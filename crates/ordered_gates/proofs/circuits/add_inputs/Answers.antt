@@ -1,16 +1,11 @@
-use Rattle.std.proofs.Common.{sym, subst, slice_index}
+use Rattle.std.proofs.Common.{subst, slice_index, arith}
 use Rattle.list_laws.proofs.Elements.{equal_lists_at}
-use Rattle.circuit_plain.specs.Netlist.{Netlist, IsDefined, IsVariable}
+use Rattle.circuit_plain.specs.Netlist.{Netlist, IsDefined}
 use Rattle.circuit_plain.proofs.NetlistParts.{input_added, input_new, input_fits}
 use Rattle.ordered_gates.proofs.circuits.add_inputs.Goals as goal
 
 pub add_input-requires-clause-in_range : goal.add_input-requires-clause-in_range
-add_input-requires-clause-in_range c =
-    let net = c.args.circuit.now in
-    let v = slice_index c.inputs-inputs.result.now c.loop-i.i in
-    let is = equal_lists_at c.inputs-inputs.result.now net.inputs c.loop-i.i c.inputs-inputs.ensures c.loop-i-test.true in
-    subst (λ (n : Netlist). IsVariable n.max_var v) (sym c.loop-i.invariant)
-    (input_fits net c.every_circuit_is_a_netlist.ensures c.loop-i.i v is.0 is.1)
+add_input-requires-clause-in_range c = search (arith, equal_lists_at, input_fits)
 
 pub add_input-requires-clause-undefined : goal.add_input-requires-clause-undefined
 add_input-requires-clause-undefined c =

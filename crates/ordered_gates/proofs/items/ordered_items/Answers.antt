@@ -4,9 +4,7 @@ use Rattle.ordered_gates.proofs.OrderedLists.{line_id, item_added}
 use Rattle.ordered_gates.proofs.items.ordered_items.Goals as goal
 
 pub push_ordered-requires : goal.push_ordered-requires
-push_ordered-requires c =
-    line_id c.args.items.now c.loop-place.place (item_seen c.get.result) c.requires
-    (omega (arith, c.loop-place-test.true, c.len-place-end.ensures.value)) c.get.ensures
+push_ordered-requires c = search (arith, line_id)
 
 pub loop-place-preserved : goal.loop-place-preserved
 loop-place-preserved c =
