@@ -1,6 +1,7 @@
 //! Numbers of few digits, read in one pass over their bytes.
 
-ghost use Rattle.std.specs.Prelude.{◌≡◌, ◌≤◌, ◌<◌, ◌^◌, ◌∷◌, false, pos, neg_ℤ, length, map, take, IfSome};
+ghost use Rattle.std.specs.Prelude.{◌≡◌, ◌+◌, ◌≤◌, ◌<◌, ◌^◌, ◌∷◌, true, false, not, nat_lt, pos, neg_ℤ, length, map, take, IfSome};
+ghost use Rattle.std.specs.Char.{is_ascii_digit};
 ghost use Rattle.dq_text.specs.Bytes.{kind_of};
 ghost use Rattle.dq_text.specs.Line.{line_tokens};
 ghost use Rattle.dq_text.specs.Number.{number_of};
@@ -215,12 +216,22 @@ fn leading_value(bytes: &[u8]) -> (u64, usize)
 {
     let mut value = 0;
     for (i, digit) in bytes.iter().enumerate() {
-        if !digit.is_ascii_digit() {
+        let amount = amount_of(*digit);
+        if amount > 9 {
             return (value, i);
         }
-        value = value * 10 + u64::from(*digit - b'0');
+        value = value * 10 + amount;
     }
     (value, bytes.len())
+}
+
+// What a byte stands for as a digit, and more than 9 where it is none. It is one step a byte.
+#[inline(always)]
+fn amount_of(byte: u8) -> u64
+    ensures digit { is_ascii_digit byte ≡ not (nat_lt 9 result) }
+    ensures value { is_ascii_digit byte ≡ true → byte ≡ result + 48 }
+{
+    u64::from(byte).wrapping_sub(48)
 }
 
 // The bytes behind the separator that ends a token here, if one does.

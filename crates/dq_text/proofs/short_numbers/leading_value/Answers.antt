@@ -2,8 +2,8 @@ use Rattle.std.proofs.Common.{◌≡◌, ◌≤◌, ◌<◌, length, arith}
 use Rattle.dq_text.proofs.ShortNumbers.{digits_small, digit_fits, leading_whole}
 use Rattle.dq_text.proofs.short_numbers.leading_value.Goals as goal
 
-pub returns-then-not-is_ascii_digit : goal.returns-then-not-is_ascii_digit
-returns-then-not-is_ascii_digit c =
+pub returns-then-amount-gt9 : goal.returns-then-amount-gt9
+returns-then-amount-gt9 c =
     let inside : c.loop-i.i < length c.args.bytes.now = omega (arith, c.loop-i-test.true) in
     record {
       within = omega (arith, inside);
@@ -20,13 +20,8 @@ overflow_mul-value c =
 pub overflow_add-value : goal.overflow_add-value
 overflow_add-value c =
     let inside : c.loop-i.i < 18 = omega (arith, c.loop-i-test.true, c.requires) in
-    let digit : c.from.result ≤ 9 = grind (
-      arith,
-      c.from.ensures,
-      c.if-not-is_ascii_digit.ensures,
-      c.if-not-is_ascii_digit.false,
-    ) in
-    omega (arith, digit_fits c.loop-i.i c.loop-i.value c.from.result inside c.loop-i.invariant.below digit)
+    let digit : c.amount_of-amount.result ≤ 9 = omega (arith, c.if-amount-gt9.false) in
+    omega (arith, digit_fits c.loop-i.i c.loop-i.value c.amount_of-amount.result inside c.loop-i.invariant.below digit)
 
 pub returns : goal.returns
 returns c =
