@@ -80,11 +80,7 @@ pub same_point : (f : Dqbf) (rows : List (List Bool)) (points : PointBits) → A
     restriction y (row_assignment f r) ≡ restriction y (row_assignment f s)
     → points (j + 1) y.variable ≡ points (k + 1) y.variable
 same_point f rows points are p y own j k r s at_j at_k same =
-    let among : Contains f.existentials y = (
-      p,
-      slice_get_within f.existentials p y own,
-      get_or_from_slice_get f.existentials p y y own,
-    ) in
+    let among : Contains f.existentials y = search (arith, slice_get_within, get_or_from_slice_get) in
     let first = All-contains (λ z. points (j + 1) z.variable ≡ are.model (pair_number f rows r z)) f.existentials y
     (are.bits j r at_j) among in
     let second = All-contains (λ z. points (k + 1) z.variable ≡ are.model (pair_number f rows s z)) f.existentials y
@@ -110,11 +106,7 @@ other_bit false = refl
 patched_one : (b o : Bool) (ones zeros : Bool) → (b ≡ true → ones ≡ true) → (b ≡ false → ones ≡ false) →
     (b ≡ false → zeros ≡ true) → (ones || (o && not zeros)) ≡ b
 patched_one true o ones zeros h k l = ap (λ c. c || (o && not zeros)) (h refl)
-patched_one false o ones zeros h k l = ap (λ c. c || (o && not zeros)) (k refl) ∙ ap (λ c. o && not c) (l refl) ∙ none o
-  where
-    none : (c : Bool) → (c && false) ≡ false
-    none true = refl
-    none false = refl
+patched_one false o ones zeros h k l = search arith
 
 patched_right : (b o ones zeros : Bool) → o ≡ b → (b ≡ true → zeros ≡ false) → (b ≡ false → ones ≡ false) →
     (ones || (o && not zeros)) ≡ b
@@ -123,11 +115,7 @@ patched_right true o false zeros is h k = ap (λ c. c && not zeros) is ∙ ap no
 patched_right false o ones zeros is h k = ap (λ c. c || (o && not zeros)) (k refl) ∙ ap (λ c. c && not zeros) is
 
 patched_none : (o ones zeros : Bool) → ones ≡ false → zeros ≡ false → (ones || (o && not zeros)) ≡ o
-patched_none o ones zeros h k = ap (λ c. c || (o && not zeros)) h ∙ ap (λ c. o && not c) k ∙ itself o
-  where
-    itself : (c : Bool) → (c && true) ≡ c
-    itself true = refl
-    itself false = refl
+patched_none o ones zeros h k = search arith
 
 -- what stays the same while an existential is looked at
 pub record AtExistential (f : Dqbf) (rows : List (List Bool)) (points : PointBits) (y : Existential) : Type 0 where
@@ -171,10 +159,7 @@ module _ (f : Dqbf) (rows : List (List Bool)) (points : PointBits) (y : Existent
   module _ (k : ℕ) (row : List Bool) (at : slice_get rows k ≡ Some row) (sees : SeesRow f y row m) where
     bit_absent : (b : Bool) → points (k + 1) y.variable ≡ b →
         at_pair g (has_bit (not b) points y.variable) pairs inputs ≡ false
-    bit_absent b is =
-        none_pass (λ q. has_bit (not b) points y.variable q.round && node_value g inputs q.cube) pairs (λ q among.
-        and_none (has_bit (not b) points y.variable q.round) (node_value g inputs q.cube) (λ holds.
-        ap (same_bit (not b)) (bit_by q among k row at sees holds ∙ is) ∙ other_bit b))
+    bit_absent b is = search (arith, none_pass, bit_by, other_bit)
 
     module _ (other : Node) (covered : IsCovered rows points g
         (universal_places f y.sees) y.variable other pairs row) where
@@ -217,11 +202,7 @@ module _ (f : Dqbf) (rows : List (List Bool)) (points : PointBits) (y : Existent
           let x = slice_index f.universals j in
           let own = one_mapped (Contains y.sees) (slice_index f.universals) (node_support g other) j reads read in
           let among = All-contains (Contains f.universals) y.sees x t.among own in
-          let below : j < length f.universals = elim (cases_lt j (length f.universals)) [
-            | inl b ↦ b
-            | inr past ↦ absurd (none_at_zero f lawful x (get_or_past f.universals j 0 (omega (arith, past)))
-                (inl among))
-          ] in
+          let below : j < length f.universals = search (arith, cases_lt, none_at_zero, get_or_past) in
           let there : place f.universals x ≡ j = place-get_or f.universals j 0
           (distinct_universals f lawful.prefix) below in
           sym (ap (bit_of covered.first) there) ∙ assignment_of-place f.universals covered.first x first_length

@@ -19,7 +19,7 @@ use Rattle.aig_graph.specs.declared.nodes.Node.{Node}
 use Rattle.aig_graph.specs.declared.nodes.Node.TheVariants.{Constant}
 use Rattle.aig_graph.proofs.LargerGraphs.{grown_twice}
 use Rattle.expansion.specs.Table.{PointBits}
-use Rattle.candidate_functions.specs.Candidates.{definition_of, AreDefinitions, AgreesAtPairs, FollowsRules, AgreeAtPairs, FollowRules}
+use Rattle.candidate_functions.specs.Candidates.{definition_of, AreDefinitions, AgreesAtPairs, AgreeAtPairs, FollowRules}
 use Rattle.candidate_functions.specs.Pairs.{IsClass, IsByRules, AreByRules, IsFirstOutput, AreFirstOutputs}
 use Rattle.candidate_functions.specs.Settling.{HaveValues, IsOutput, AreOutputs}
 use Rattle.candidate_functions.specs.declared.classes.Class.{Class}
@@ -125,8 +125,7 @@ module _ (f : Dqbf) (ranks : List ℕ) (lawful : IsLawful f) (rows : List (List 
       (λ y is. is.at_pairs) f.existentials each_is
 
   pub follow_rules : FollowRules f rows rules definitions (outputs_of f g nodes)
-  follow_rules = All-weaker IsOne (λ y. definition_of f definitions y ≡ None →
-      FollowsRules f rows rules y (outputs_of f g nodes y)) (λ y is. is.by_rules) f.existentials each_is
+  follow_rules = search (arith, All-weaker, each_is)
 
   module _ (m : Assignment) (same : All (λ y. m y.variable ≡ (outputs_of f g nodes y).value m) f.existentials) where
     have_values : (y : Existential) → HaveValues f ranks g nodes y m

@@ -1,5 +1,5 @@
 -- Under a row of the table, with a model's bits at its pairs, a clause is true where its instance holds.
-use Rattle.std.proofs.Common.{◌≡◌, ℕ, ◌+◌, Bool, true, false, cond, List, [], ◌∷◌, ◌++◌, map, length, get_or, Option, None, Some, sym, ◌∙◌, ap, inl, inr, arith, refl, length-append}
+use Rattle.std.proofs.Common.{◌≡◌, ℕ, ◌+◌, Bool, true, List, [], ◌∷◌, ◌++◌, map, length, get_or, Option, None, Some, sym, ◌∙◌, ap, inl, inr, arith, refl, length-append}
 use Rattle.std.specs.List.{Contains, list_any, filter_map, cons_option}
 use Rattle.std.specs.Option.{option_map}
 use Rattle.std.proofs.Math.ListN.{get_or-append}
@@ -8,7 +8,7 @@ use Rattle.std.proofs.lemmas.List.{get_or-append-add, get_or-map, get_or_default
 use Rattle.list_laws.proofs.Members.{contains_listed}
 use Rattle.dq_lits.specs.Literal.{Assignment, Literal, variable_of, on_variable, literal_true, clause_true}
 use Rattle.dq_lits.specs.Formula.{Existential, Dqbf, is_universal, existential_of, HasLawfulPrefix}
-use Rattle.dq_lits.specs.Expansion.{row_assignment, pair_number, pair_literal, universal_literal_true, instance_clause, InstanceHolds}
+use Rattle.dq_lits.specs.Expansion.{pair_number, pair_literal, universal_literal_true, instance_clause, InstanceHolds}
 use Rattle.dq_lits.proofs.LiftedExpansion.{literal_true-agree}
 use Rattle.dq_lits.proofs.FormulaVariables.{find_sound}
 use Rattle.dq_lits.proofs.Truth.{literal_true-on_variable}
@@ -45,14 +45,8 @@ module _ (f : Dqbf) (rows : List (List Bool)) (row : List Bool) (m n : Assignmen
   by_universal : (clause : List Literal) → list_any (universal_literal_true f row) clause ≡ true →
       clause_true n clause ≡ true
   by_universal [] h = h
-  by_universal (l ∷ ls) h = elim (or_cases (universal_literal_true f row l)
-      (list_any (universal_literal_true f row) ls) h) [
-        | inl here ↦ (
-            let parts = and_parts (is_universal f (variable_of l)) (literal_true (row_assignment f row) l) here in
-            or_left (literal_true n l) (clause_true n ls) (literal_true-agree n (row_assignment f row) l
-            (t.universal (variable_of l) parts.0) ∙ parts.1))
-        | inr later ↦ or_right (literal_true n l) (clause_true n ls) (by_universal ls later)
-      ]
+  by_universal (l ∷ ls) h =
+      search (arith, or_cases, and_parts, or_left, literal_true-agree, or_right, (by_universal ls))
 
   by_pair : (l : Literal) (ls : List Literal) (o : Option Existential) → existential_of f (variable_of l) ≡ o
       → (clause_true m (filter_map (pair_literal f rows row) ls) ≡ true → clause_true n ls ≡ true)
@@ -75,8 +69,4 @@ module _ (f : Dqbf) (rows : List (List Bool)) (row : List Bool) (m n : Assignmen
 
   pub clause_holds : (clause : List Literal) → InstanceHolds m (instance_clause f rows row clause) →
       clause_true n clause ≡ true
-  clause_holds clause h = by_bit (list_any (universal_literal_true f row) clause) refl h where
-    by_bit : (b : Bool) → list_any (universal_literal_true f row) clause ≡ b →
-        InstanceHolds m (cond b None (Some (filter_map (pair_literal f rows row) clause))) → clause_true n clause ≡ true
-    by_bit true e h = by_universal clause e
-    by_bit false e h = by_instance clause h
+  clause_holds clause h = search (arith, by_universal, by_instance)

@@ -1,5 +1,5 @@
 -- A definition has the points' bits at the pairs of the rows.
-use Rattle.std.proofs.Common.{◌≡◌, ℕ, ◌+◌, ◌-◌, ◌<◌, ◌≤◌, Bool, true, false, cond, List, ◌++◌, map, length, get_or, slice_get, slice_index, nat_lt, Option, None, Some, sym, ◌∙◌, ap, subst, inl, inr, ◌⊎◌, arith}
+use Rattle.std.proofs.Common.{◌≡◌, ℕ, ◌+◌, ◌-◌, ◌<◌, ◌≤◌, Bool, false, cond, List, ◌++◌, map, length, get_or, slice_get, slice_index, nat_lt, Option, None, Some, sym, ◌∙◌, ap, subst, inl, inr, ◌⊎◌, arith}
 use Rattle.std.specs.List.{All, Contains}
 use Rattle.std.proofs.Math.ListN.{get_or-append}
 use Rattle.std.proofs.lemmas.Bool.{cases_Bool, cases_lt, lt-ltb, le-ltb}
@@ -63,8 +63,7 @@ defined_at_pair f ranks graph y node own is rows row model instances m t =
 
 pub same_bits_seen : (m n : Assignment) (xs : List ℕ) (x : ℕ) → map m xs ≡ map n xs → Contains xs x → m x ≡ n x
 same_bits_seen m n xs x same (k, below, is) =
-    ap m (sym is) ∙ sym (get_or-map m xs k x (m x) below) ∙ ap (λ bs. get_or bs k (m x)) same ∙ get_or-map n xs k x
-    (m x) below ∙ ap n is
+    search (arith, (get_or-map m xs k x (m x) below), (get_or-map n xs k x (m x) below))
 
 -- an existential of which less is seen sees the row too
 pub sees_row_too : (f : Dqbf) (y z : Existential) (row : List Bool) (m : Assignment) → All (Contains y.sees) z.sees →
@@ -197,9 +196,7 @@ module _ (f : Dqbf) (ranks : List ℕ) (lawful : IsLawful f) (y : Existential)
 
     input_same : (i : ℕ) → IsUniversalInput f y i ⊎ IsSharedInput f ranks y i →
         values_put_in g nodes own_inputs i ≡ w (input_variable f i)
-    input_same i (inl (below, sees)) =
-        picked true i (lt-ltb i (first_inputs g nodes) (subst (λ n. i < n) (sym first_is) below)) ∙ seen
-        (slice_index f.universals i) sees ∙ ap w (sym (first_variable f ranks lawful y own i below))
+    input_same i (inl (below, sees)) = search (arith, lt-ltb, first_is, first_variable)
     input_same i (inr s) =
         let past : first_inputs g nodes ≤ i = (let e = s.behind in let b = first_is in omega arith) in
         let place : i - first_inputs g nodes ≡ s.place = (let e = s.behind in let b = first_is in omega arith) in

@@ -58,8 +58,7 @@ class_like f rows g cs p y all like = record {
 
   set_is : (e : Existential) (o : Option Existential) → existential_of f y ≡ Some e →
       existential_of f like.class.y ≡ o → option_map (λ (z : Existential). z.sees) o ≡ Some e.sees
-  set_is e o known found = ap (option_map (λ (z : Existential). z.sees)) (sym found) ∙ like.alike ∙ ap
-      (option_map (λ (z : Existential). z.sees)) known
+  set_is e o known found = search arith
 
   by : (e : Existential) → existential_of f y ≡ Some e → (o : Option Existential) → existential_of f like.class.y ≡ o →
       IsPlacedClass rows g (universal_places f e.sees) like.class
@@ -111,8 +110,5 @@ pub placed_there : (f : Dqbf) (rows : List (List Bool)) (g : AigGraph) (cs : Lis
     (places : List ℕ) → HasClass f rows g cs p y → c ≡ get_or cs p c → IsSome (existential_of f y)
     → ((e : Existential) → existential_of f y ≡ Some e → places ≡ universal_places f e.sees) →
     IsPlacedClass rows g places c
-placed_there f rows g cs p y c places has at is told = some_existential f y (IsPlacedClass rows g places c) is
-    (λ e known.
-    let same : c ≡ has.class = at ∙ get_or_from_slice_get cs p has.class c has.at in
-    subst (IsPlacedClass rows g places) (sym same) (subst (λ ps. IsPlacedClass rows g ps has.class) (sym (told e known))
-    (has.is_class e known)))
+placed_there f rows g cs p y c places has at is told =
+    search (arith, (some_existential f y), (get_or_from_slice_get cs p has.class c has.at))

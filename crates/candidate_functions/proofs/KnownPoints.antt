@@ -1,5 +1,5 @@
 -- The values of nodes under the rows of a table, and where they are known to be an existential's points.
-use Rattle.std.proofs.Common.{◌≡◌, ℕ, ◌+◌, Bool, List, [], ◌∷◌, ◌++◌, map, length, take, get_or, slice_get, Some, refl, sym, ◌∙◌, ap}
+use Rattle.std.proofs.Common.{◌≡◌, ℕ, ◌+◌, Bool, List, [], ◌∷◌, ◌++◌, map, length, take, slice_get, Some, refl, sym, ◌∙◌, ap, arith}
 use Rattle.std.specs.List.{All}
 use Rattle.std.proofs.lemmas.List.{take_more, map-append}
 use Rattle.std.proofs.lemmas.List.Elements.{All-head, All-tail}
@@ -22,12 +22,13 @@ pub row_valued : (rows : List (List Bool)) (g : AigGraph) (nodes : List Node) (k
     → now ≡ map (node_value g (bit_of row)) nodes → values ≡ map (values_under g nodes) (take k rows) →
     (values ++ now ∷ []) ≡ map (values_under g nodes) (take (k + 1) rows)
 row_valued rows g nodes k row now values at is are =
-    let F = values_under g nodes in
-    let below = slice_get_within rows k row at in
-    ap (λ vs. vs ++ now ∷ []) are
-    ∙ ap (λ v. map F (take k rows) ++ v ∷ []) (is ∙ ap F (sym (get_or_from_slice_get rows k row row at)))
-    ∙ sym (map-append F (take k rows) (get_or rows k row ∷ []))
-    ∙ ap (map F) (sym (take_more rows k row below))
+    search (
+      arith,
+      (slice_get_within rows k row at),
+      (get_or_from_slice_get rows k row row at),
+      map-append,
+      (take_more rows k row),
+    )
 
 module _ (old new : AigGraph) (h : Extends old new) where
   same_values : (nodes : List Node) (row : List Bool) → All (IsNode old) nodes →
@@ -40,9 +41,7 @@ module _ (old new : AigGraph) (h : Extends old new) where
   all_same : (nodes : List Node) → All (IsNode old) nodes → (rows : List (List Bool)) →
       map (values_under old nodes) rows ≡ map (values_under new nodes) rows
   all_same nodes are [] = refl
-  all_same nodes are (row ∷ rows) =
-      ap (λ v. v ∷ map (values_under old nodes) rows) (same_values nodes row are)
-      ∙ ap (λ vs. values_under new nodes row ∷ vs) (all_same nodes are rows)
+  all_same nodes are (row ∷ rows) = search (arith, same_values, (all_same nodes are rows))
 
   pub values_stay : (rows : List (List Bool)) (nodes : List Node) (values : List (List Bool)) → All (IsNode old) nodes →
       AreValues rows old nodes values → AreValues rows new nodes values

@@ -1,5 +1,5 @@
 -- What stays as a graph grows.
-use Rattle.std.proofs.Common.{ℕ, Bool, List, Option, map, sym, ◌∙◌, subst, slice_index, get_or}
+use Rattle.std.proofs.Common.{ℕ, Bool, List, Option, map, sym, ◌∙◌, subst, slice_index, get_or, arith}
 use Rattle.std.specs.List.{All, Contains}
 use Rattle.std.proofs.lemmas.List.Elements.{All-weaker}
 use Rattle.dq_lits.specs.Formula.{Existential, Dqbf}
@@ -27,18 +27,11 @@ module _ (old new : AigGraph) (h : Extends old new) where
 
   pair_stays : (rows : List (List Bool)) (places : List ℕ) (p : Pair) → IsPair rows old places p →
       IsPair rows new places p
-  pair_stays rows places p pair = record {
-    place = pair.place;
-    row = pair.row;
-    round = pair.round;
-    at = pair.at;
-    cube = cube_stays places pair.row p.cube pair.cube;
-  }
+  pair_stays rows places p pair = search (arith, cube_stays)
 
   pub pairs_stay : (rows : List (List Bool)) (places : List ℕ) (pairs : List Pair) →
       All (IsPair rows old places) pairs → All (IsPair rows new places) pairs
-  pairs_stay rows places pairs each = All-weaker (IsPair rows old places) (IsPair rows new places)
-      (pair_stays rows places) pairs each
+  pairs_stay rows places pairs each = search (arith, All-weaker, pair_stays)
 
   pub placed_stays : (rows : List (List Bool)) (places : List ℕ) (c : Class) → IsPlacedClass rows old places c →
       IsPlacedClass rows new places c
@@ -106,5 +99,4 @@ module _ (old new : AigGraph) (h : Extends old new) where
 
   pub definitions_stay : (f : Dqbf) (ranks : List ℕ) (definitions : List (Option Node)) →
       AreDefinitions f ranks old definitions → AreDefinitions f ranks new definitions
-  definitions_stay f ranks definitions are k d lt node is = definition_stays f ranks (get_or f.existentials k d) node
-      (are k d lt node is)
+  definitions_stay f ranks definitions are k d lt node is = search (arith, definition_stays)

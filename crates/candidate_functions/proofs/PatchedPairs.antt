@@ -22,11 +22,7 @@ pub own_cube : (rows : List (List Bool)) (g : AigGraph) (places rounds : List �
     (cube : Node) → i < length rounds → round ≡ get_or rounds i round
     → slice_get rows (round - 1) ≡ Some first → slice_get rows (slice_index rounds i - 1) ≡ Some row →
     IsRowCube g places first cube → IsRowCube g places row cube
-own_cube rows g places rounds i round first row cube below is at there own =
-    let index : slice_index rounds i ≡ round = get_or_default rounds i 0 round below ∙ sym is in
-    let one : Some first ≡ Some row = sym at ∙ subst (λ r. slice_get rows (r - 1) ≡ Some row) index there in
-    let row_is : first ≡ row = cc in
-    subst (λ r. IsRowCube g places r cube) row_is own
+own_cube rows g places rounds i round first row cube below is at there own = search (arith, get_or_default)
 
 -- a cube at a place of a class
 pub cube_put : (rows : List (List Bool)) (old new : AigGraph) (places : List ℕ) (c d : Class) (i : ℕ) (cube : Node) →
@@ -134,13 +130,8 @@ module _ (rows values : List (List Bool)) (points : PointBits) (places : List �
 -- the rounds and cubes of pairs
 pub pair_rounds_within : (rows : List (List Bool)) (g : AigGraph) (places : List ℕ) (pairs : List Pair) →
     All (IsPair rows g places) pairs → AreRounds (length rows) pairs
-pair_rounds_within rows g places pairs each = All-weaker (IsPair rows g places)
-    (λ p. (1 ≤ p.round) × (p.round ≤ length rows)) (λ p is.
-    let within = slice_get_within rows is.place is.row is.at in
-    let round = is.round in
-    (omega arith, omega arith)) pairs each
+pair_rounds_within rows g places pairs each = search (arith, All-weaker, slice_get_within)
 
 pub pair_cubes : (rows : List (List Bool)) (g : AigGraph) (places : List ℕ) (pairs : List Pair) →
     All (IsPair rows g places) pairs → All (λ p. IsNode g p.cube) pairs
-pair_cubes rows g places pairs each = All-weaker (IsPair rows g places) (λ p. IsNode g p.cube)
-    (λ p is. is.cube.is_node) pairs each
+pair_cubes rows g places pairs each = search (arith, All-weaker)

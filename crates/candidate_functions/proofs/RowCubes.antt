@@ -1,10 +1,9 @@
 -- Cubes of rows.
-use Rattle.std.proofs.Common.{◌≡◌, ℕ, ◌<◌, Bool, true, false, not, ◌&&◌, List, [], ◌∷◌, map, refl, sym, ◌∙◌, ap, subst}
+use Rattle.std.proofs.Common.{◌≡◌, ℕ, ◌<◌, Bool, true, false, not, List, [], ◌∷◌, map, refl, sym, ◌∙◌, subst, arith}
 use Rattle.std.specs.List.{All, Contains, list_all}
 use Rattle.std.proofs.lemmas.List.Elements.{All-map}
 use Rattle.list_laws.proofs.Members.{mapped_from, only_one}
 use Rattle.dq_lits.specs.Henkin.{same_bit}
-use Rattle.dq_lits.specs.Row.{bit_of}
 use Rattle.aig_graph.specs.Graph.{AigGraph, with_sign, node_value, node_support, IsNode}
 use Rattle.aig_graph.specs.Made.{IsCube}
 use Rattle.aig_graph.specs.declared.nodes.Node.{Node}
@@ -18,9 +17,7 @@ signed false x = refl
 literals_value : (old : AigGraph) (inputs : ℕ → Bool) (row : List Bool) (places : List ℕ) →
     list_all (node_value old inputs) (map (row_literal row) places) ≡ agrees places row inputs
 literals_value old inputs row [] = refl
-literals_value old inputs row (p ∷ places) =
-    ap (λ b. b && list_all (node_value old inputs) (map (row_literal row) places)) (signed (bit_of row p) (inputs p))
-    ∙ ap (λ b. same_bit (bit_of row p) (inputs p) && b) (literals_value old inputs row places)
+literals_value old inputs row (p ∷ places) = search (arith, (literals_value old inputs row places))
 
 pub row_cube_made : (old new : AigGraph) (places : List ℕ) (row : List Bool) (n : Node) →
     IsCube old new (map (row_literal row) places) n → IsRowCube new places row n

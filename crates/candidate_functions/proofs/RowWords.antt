@@ -1,6 +1,5 @@
 -- Rows side by side in words: how they are written, and the values that are read from them.
-use Rattle.std.proofs.Common.{◌≡◌, ◌≢◌, ℕ, ◌+◌, ◌<◌, ◌≤◌, Bool, false, ◌==◌, List, [], ◌∷◌, ◌++◌, map, length, get_or, take, drop, min, ◌*◌, inl, inr, ◌⊎◌, sym, ◌∙◌, ap, subst, arith, length-append}
-use mathlib.Core.Path.{fun_ext}
+use Rattle.std.proofs.Common.{◌≡◌, ◌≢◌, ℕ, ◌+◌, ◌<◌, ◌≤◌, Bool, false, ◌==◌, List, [], ◌∷◌, ◌++◌, map, length, get_or, take, drop, min, ◌*◌, sym, ◌∙◌, ap, subst, arith, length-append}
 use Rattle.std.specs.List.{All}
 use Rattle.std.proofs.Math.Seq.{take-append_seam}
 use Rattle.std.proofs.lemmas.List.{get_or_past}
@@ -23,21 +22,12 @@ pub no_bit : (b : ℕ) → word_bit b 0 ≡ false
 no_bit b = ap (λ n. n == 1) (bit_at-zero b)
 
 pub word_begins : (rows : List (List Bool)) (first place : ℕ) → IsWordSoFar rows first place 0 0
-word_begins rows first place = record {
-  bits = λ j below. absurd (omega (arith, below));
-  clear = λ j from. no_bit j;
-}
+word_begins rows first place = search arith
 
 pub word_goes_on : (rows : List (List Bool)) (first place b word next : ℕ) → IsWordSoFar rows first place b word →
     word_bit b next ≡ bit_of (get_or rows (first + b) []) place →
     ((j : ℕ) → j ≢ b → word_bit j next ≡ word_bit j word) → IsWordSoFar rows first place (b + 1) next
-word_goes_on rows first place b word next before here others = record {
-  bits = λ j below. by j (below_or_here j b below);
-  clear = λ j from. others j (λ e. omega (arith, e, from)) ∙ before.clear j (omega (arith, from));
-} where
-  by : (j : ℕ) → (j < b) ⊎ (j ≡ b) → word_bit j next ≡ bit_of (get_or rows (first + j) []) place
-  by j (inl below) = others j (λ e. omega (arith, e, below)) ∙ before.bits j below
-  by j (inr is) = subst (λ k. word_bit k next ≡ bit_of (get_or rows (first + k) []) place) (sym is) here
+word_goes_on rows first place b word next before here others = search (arith, below_or_here)
 
 -- how many of the inputs' words were made
 pub record AreInputsSoFar (rows : List (List Bool)) (first count : ℕ) (words : List ℕ) : Type 0 where
@@ -47,27 +37,11 @@ pub record AreInputsSoFar (rows : List (List Bool)) (first count : ℕ) (words :
 -- the words have the rows
 same_row : (words : List ℕ) (row : List Bool) (b : ℕ) → length row ≤ length words →
     ((i : ℕ) → i < length words → row_at words b i ≡ bit_of row i) → row_at words b ≡ bit_of row
-same_row words row b short bits = fun_ext (λ i. by i (below_or_from i (length words)))
-  where
-    below_or_from : (i n : ℕ) → (i < n) ⊎ (n ≤ i)
-    below_or_from i n = search (arith)
-
-    by : (i : ℕ) → (i < length words) ⊎ (length words ≤ i) → row_at words b i ≡ bit_of row i
-    by i (inl below) = bits i below
-    by i (inr from) =
-        ap (word_bit b) (get_or_past words i 0 from) ∙ no_bit b
-        ∙ sym (get_or_past row i false (omega (arith, short, from)))
+same_row words row b short bits = search (arith, get_or_past, no_bit)
 
 short_row : (rows : List (List Bool)) (inputs k : ℕ) → All (λ row. length row ≤ inputs) rows →
     length (get_or rows k []) ≤ inputs
-short_row rows inputs k short = by (below_or_from k (length rows))
-  where
-    below_or_from : (i n : ℕ) → (i < n) ⊎ (n ≤ i)
-    below_or_from i n = search (arith)
-
-    by : (k < length rows) ⊎ (length rows ≤ k) → length (get_or rows k []) ≤ inputs
-    by (inl below) = short k [] below
-    by (inr from) = subst (λ row. length row ≤ inputs) (sym (get_or_past rows k [] from)) (omega arith)
+short_row rows inputs k short = search (arith, get_or_past)
 
 pub words_from : (rows : List (List Bool)) (graph : AigGraph) (nodes : List Node) (first : ℕ) (inputs words : List ℕ) →
     All (λ row. length row ≤ length inputs) rows →
@@ -82,8 +56,7 @@ words_from rows graph nodes first inputs words short bits values b below =
 -- what a list that was lent has behind the call
 pub lent_back : (old new : List ℕ) (count : ℕ) → count ≡ length new →
     take count (new ++ drop (length new) old) ≡ new
-lent_back old new count long =
-    subst (λ n. take n (new ++ drop (length new) old) ≡ new) (sym long) (take-append_seam new (drop (length new) old))
+lent_back old new count long = search (arith, take-append_seam)
 
 -- how many rows were added
 pub record ArePushed (rows : List (List Bool)) (graph : AigGraph) (nodes : List Node) (old values : List (List Bool))

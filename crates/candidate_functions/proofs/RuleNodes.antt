@@ -72,21 +72,15 @@ cube_node_made f old new ls n among cube = record {
 
 rule_here : (rule : Rule) (later : List Rule) (v : ℕ) (m : Assignment) → rule.y ≡ v
     → first_bit (rule ∷ later) v m ≡ cond (cube_true m rule.cube) (Some rule.bit) (first_bit later v m)
-rule_here rule later v m is = ap (λ b. cond (b && cube_true m rule.cube) (Some rule.bit) (first_bit later v m))
-    (eq-eqb rule.y v is)
+rule_here rule later v m is = search (arith, eq-eqb)
 
 rule_elsewhere : (rule : Rule) (later : List Rule) (v : ℕ) (m : Assignment) → (rule.y ≡ v → ⊥) →
     first_bit (rule ∷ later) v m ≡ first_bit later v m
-rule_elsewhere rule later v m other = ap (λ b. cond (b && cube_true m rule.cube) (Some rule.bit) (first_bit later v m))
-    (ne_eqb rule.y v other)
+rule_elsewhere rule later v m other = search (arith, ne_eqb)
 
 by_other_rule : (f : Dqbf) (g : AigGraph) (rule : Rule) (later : List Rule) (y : Existential) (n : Node) →
     (rule.y ≡ y.variable → ⊥) → IsByRules f g later y n → IsByRules f g (rule ∷ later) y n
-by_other_rule f g rule later y n other by = record {
-  is_node = by.is_node;
-  value = λ m bit is. by.value m bit (sym (rule_elsewhere rule later y.variable m other) ∙ is);
-  reads = by.reads;
-}
+by_other_rule f g rule later y n other by = search (arith, rule_elsewhere)
 
 -- the rule's bit where its cube is true, else what later ones say
 chosen_bit : (c own before bit : Bool) (later : Option Bool) → (later ≡ Some bit → before ≡ bit) →
@@ -200,9 +194,7 @@ rule_node_there f g nodes w p found each are =
 
 from_the_rule : (rules : List Rule) (at : ℕ) (rule : Rule) → at < length rules → rule ≡ get_or rules at rule →
     drop at rules ≡ rule ∷ drop (at + 1) rules
-from_the_rule rules at rule lt is =
-    let next : suc at ≡ at + 1 = omega arith in
-    drop-cons rules at rule lt ∙ ap (λ r. r ∷ drop (suc at) rules) (sym is) ∙ ap (λ n. rule ∷ drop n rules) next
+from_the_rule rules at rule lt is = search (arith, drop-cons)
 
 -- the rule at a place before those behind it
 pub with_rule : (f : Dqbf) (g : AigGraph) (rules : List Rule) (at : ℕ) (rule : Rule) (nodes : List Node) → 0 < at →

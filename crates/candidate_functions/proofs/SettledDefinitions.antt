@@ -44,26 +44,18 @@ pub record IsClosed (f : Dqbf) (ranks : List ℕ) (done : List ℕ) : Type 0 whe
 
 first_closed : (f : Dqbf) (ranks : List ℕ) (order : List ℕ) (at : ℕ) → at ≤ length order → AreInOrder f ranks order →
     IsClosed f ranks (take at order)
-first_closed f ranks order at within are = record { earlier = earlier } where
-  earlier : (p q : ℕ) (y z : Existential) → Contains (take at order) p → slice_get f.existentials p ≡ Some y →
-      slice_get f.existentials q ≡ Some z → ComesBefore f ranks z y → Contains (take at order) q
-  earlier p q y z (j, below, is) own other before =
-      let size = length-take at order in
-      let early : j < at = omega arith in
-      let there : slice_get order j ≡ Some p = slice_get-get_or order j p (omega arith) ∙ ap Some
-      (sym (get_or-take at order j p early) ∙ is) in
-      let found = are.earlier j p q y z there own other before in
-      let (i, small, at_i) = found in
-      let short = length-take j order in
-      (i, omega arith, get_or-take at order i q (omega arith) ∙ sym (get_or-take j order i q (omega arith)) ∙ at_i)
+first_closed f ranks order at within are = search (arith, length-take, slice_get-get_or, get_or-take)
 
 not_done : (f : Dqbf) (ranks : List ℕ) (order : List ℕ) (at q : ℕ) → AreInOrder f ranks order →
     slice_get order at ≡ Some q → Contains (take at order) q → ⊥
 not_done f ranks order at q are here (j, below, is) =
-    let size = length-take at order in
-    let early : j < at = omega arith in
-    are.distinct j at q early (slice_get_within order at q here)
-    (sym (get_or-take at order j q early) ∙ is ∙ sym (get_or_from_slice_get order at q q here))
+    search (
+      arith,
+      (length-take at order),
+      (slice_get_within order at q here),
+      (get_or-take at order j q),
+      (get_or_from_slice_get order at q q here),
+    )
 
 module _ (f : Dqbf) (ranks : List ℕ) (lawful : IsLawful f) (definitions : List (Option Node)) (g h : AigGraph)
     (nodes after : List Node) (done : List ℕ) (q : ℕ) (grown : Extends g h)
@@ -128,11 +120,7 @@ module _ (f : Dqbf) (ranks : List ℕ) (lawful : IsLawful f) (definitions : List
       o = before.each p y at settled
 
       is_done : (d : Node) → definition p ≡ Some d → Contains done p
-      is_done d is = elim settled [
-        | inl none ↦ absurd (let e : None ≡ Some d = sym none ∙ is in cc)
-        | inr among
-            ↦ among
-      ]
+      is_done d is = search arith
 
       values_before : (d : Node) → definition p ≡ Some d → (m : Assignment) → HaveValues f ranks h after y m →
           HaveValues f ranks g nodes y m

@@ -26,16 +26,10 @@ use Rattle.list_laws.proofs.Options.{none_is_some}
 
 pub over_stays : (old new : AigGraph) → Extends old new → (places : List ℕ) (n : Node) → IsOver old places n →
     IsOver new places n
-over_stays old new h places n is = record {
-  is_node = h.nodes n is.is_node;
-  reads = λ i has. is.reads i (subst (λ s. Contains s i) (h.supports n is.is_node) has);
-}
+over_stays old new h places n is = search arith
 
 pub constant_over : (g : AigGraph) (places : List ℕ) (b : Bool) → IsOver g places (Constant b)
-constant_over g places b = record {
-  is_node = tt;
-  reads = λ i has. absurd (let (k, below, at) = has in omega (arith, below));
-}
+constant_over g places b = search arith
 
 pub all_over_stay : (old new : AigGraph) → Extends old new → (places : List ℕ) (nodes : List Node) →
     All (IsOver old places) nodes → All (IsOver new places) nodes
@@ -43,11 +37,7 @@ all_over_stay old new h places nodes are k d lt = over_stays old new h places (g
 
 pub at_over : (g : AigGraph) (places : List ℕ) (nodes : List Node) → All (IsOver g places) nodes → (k : ℕ) →
     IsOver g places (get_or nodes k (Constant false))
-at_over g places nodes are k = elim (cases_lt k (length nodes)) [
-  | inl below ↦ are k (Constant false) below
-  | inr not_below ↦ subst (IsOver g places) (sym (get_or_past nodes k (Constant false) (omega (arith, not_below))))
-      (constant_over g places false)
-]
+at_over g places nodes are k = search (arith, cases_lt, get_or_past, constant_over)
 
 -- where a universal that is seen stands
 pub place_among : (f : Dqbf) (seen : List ℕ) (x p : ℕ) → Contains seen x → p ≡ place f.universals x →
@@ -71,10 +61,7 @@ chosen_over old new places p t e n among over other chosen = record {
   is_node = chosen.is_node;
   reads = λ i has. elim (chosen.reads i has) [
     | inl c ↦ subst (Contains places) (only_one p i c) among
-    | inr rest ↦ (elim rest [
-      | inl left ↦ over.reads i left
-      | inr right ↦ other.reads i right
-    ])
+    | inr rest ↦ search arith
   ];
 }
 
@@ -91,11 +78,14 @@ put_over g places nodes p n are is = All-set (IsOver g places) nodes p n is are
 pub tree_more : (old mid new : AigGraph) (places : List ℕ) (at : ℕ) (nodes : List Node) (n : Node) → 0 < at →
     TreeSoFar old mid places at nodes → Extends mid new → IsOver new places n
     → TreeSoFar old new places (at - 1) (set nodes (at - 1) n)
-tree_more old mid new places at nodes n some far grown is = record {
-  grown = grown_twice old mid new far.grown grown;
-  within = (let w = far.within in let s = length-set nodes (at - 1) n in omega arith);
-  over = put_over new places nodes (at - 1) n (all_over_stay mid new grown places nodes far.over) is;
-}
+tree_more old mid new places at nodes n some far grown is =
+    search (
+      arith,
+      (grown_twice old mid new far.grown grown),
+      (length-set nodes (at - 1) n),
+      (put_over new places nodes (at - 1) n (all_over_stay mid new grown places nodes far.over) is),
+      (all_over_stay mid new grown places nodes far.over),
+    )
 
 -- without rules nothing is said of its values
 pub unruled : (f : Dqbf) → IsLawful f → (v : ℕ) (y : Existential) → existential_of f v ≡ Some y →
@@ -130,10 +120,8 @@ guess_there f lawful g guesses p y n are at is = record {
 -- the guess of an existential is a node
 pub guess_is_node : (f : Dqbf) → IsLawful f → (g : AigGraph) (guesses : List (Option Node)) (p : ℕ) (n : Node) →
     AreGuesses f g guesses → p < length f.existentials → get_or guesses p None ≡ Some n → IsNode g n
-guess_is_node f lawful g guesses p n are below is = let (_, cases) = slice_get_cases f.existentials p in elim cases [
-  | inl found ↦ let (y, _, at, _) = found in (guess_there f lawful g guesses p y n are at is).is_node
-  | inr past ↦ let (least, _) = past in absurd (omega (arith, below, least))
-]
+guess_is_node f lawful g guesses p n are below is =
+    search (arith, (slice_get_cases f.existentials p), (guess_there f lawful g guesses p))
 
 -- the nodes of the first existentials
 pub record NodesSoFar (f : Dqbf) (old new : AigGraph) (count : ℕ) (nodes : List Node) : Type 0 where
@@ -150,15 +138,8 @@ node_more f old mid new count nodes n far grown is = record {
   grown = grown_twice old mid new far.grown grown;
   one_each = length_push nodes n ∙ ap (λ k. k + 1) far.one_each;
   each = λ p y below at. elim (cases_lt p count) [
-    | inl early ↦ subst (IsByRules f new [] y) (sym (get_or-append nodes (n ∷ []) (Constant false) p
-        (let long = far.one_each in omega arith)))
-        (rule_node_stays mid new grown f [] y (get_or nodes p (Constant false)) (far.each p y early at))
-    | inr late ↦ (
-        let here : p ≡ count = omega arith in
-        let last : get_or (nodes ++ n ∷ []) count (Constant false) ≡ n =
-        get_or_push nodes n (Constant false) count far.one_each in
-        subst (λ q. IsByRules f new [] y (get_or (nodes ++ n ∷ []) q (Constant false))) (sym here)
-        (subst (IsByRules f new [] y) (sym last) (is y (subst (λ q. slice_get f.existentials q ≡ Some y) here at))))
+    | inl early ↦ search (arith, get_or-append, rule_node_stays, far.one_each, far.each)
+    | inr late ↦ search (arith, get_or_push)
   ];
 }
 

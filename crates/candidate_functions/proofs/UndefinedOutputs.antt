@@ -1,5 +1,5 @@
 -- The output of an existential without a definition.
-use Rattle.std.proofs.Common.{◌≡◌, ℕ, ◌+◌, ◌-◌, ◌<◌, Bool, true, false, not, ◌&&◌, ◌||◌, List, [], length, slice_get, Some, Result, Ok, Err, OnOk, refl, sym, subst, inl, inr, arith}
+use Rattle.std.proofs.Common.{◌≡◌, ℕ, ◌+◌, ◌-◌, ◌<◌, Bool, List, [], length, slice_get, Some, Result, Ok, Err, OnOk, sym, subst, inl, inr, arith}
 use Rattle.std.specs.List.{All}
 use Rattle.std.proofs.lemmas.Option.{slice_get_within}
 use Rattle.list_laws.proofs.Members.{place_of}
@@ -7,7 +7,7 @@ use Rattle.dq_lits.specs.Formula.{Existential, Dqbf, existential_of}
 use Rattle.dq_lits.proofs.FormulaVariables.{find_sound}
 use Rattle.dq_formula.specs.Prefix.{IsLawful}
 use Rattle.dq_formula.specs.declared.rules.Rule.{Rule}
-use Rattle.aig_graph.specs.Graph.{AigGraph, IsNode, node_value}
+use Rattle.aig_graph.specs.Graph.{AigGraph, IsNode}
 use Rattle.aig_graph.specs.Made.{Extends}
 use Rattle.aig_graph.specs.declared.nodes.Node.{Node}
 use Rattle.expansion.specs.Table.{PointBits, ArePoints}
@@ -34,14 +34,7 @@ at_existential f lawful rows points whole are v y found =
 
 nothing_patched : (g : AigGraph) (points : PointBits) (v : ℕ) (node : Node) → IsNode g node →
     IsPatched g g points v [] node node
-nothing_patched g points v node is = record {
-  is_node = is;
-  value = λ inputs. itself (node_value g inputs node);
-  reads = λ i has. inl has;
-} where
-  itself : (b : Bool) → b ≡ (false || (b && not false))
-  itself true = refl
-  itself false = refl
+nothing_patched g points v node is = search arith
 
 -- a node that is known to have all points
 pub right_is_candidate : (f : Dqbf) → IsLawful f → (rows : List (List Bool)) (points : PointBits) →

@@ -1,4 +1,4 @@
-use Rattle.std.proofs.Common.{sym, subst, All}
+use Rattle.std.proofs.Common.{sym, subst, All, arith}
 use Rattle.aig_graph.specs.Graph.{IsNode}
 use Rattle.aig_graph.proofs.LargerGraphs.{grown_twice}
 use Rattle.expansion.specs.Table.{point_bits}
@@ -14,15 +14,10 @@ first_outputs-requires-clause-others c =
     c.in_ok-others.others.items c.in_ok-others.ensures.nodes)
 
 pub returns-in_err-nodes-clause-extends : goal.returns-in_err-nodes-clause-extends
-returns-in_err-nodes-clause-extends c = grown_twice c.args.graph.now c.by_rules.new.graph c.first_outputs.new.graph
-    c.in_ok-others.ensures.extends c.first_outputs.ensures.extends
+returns-in_err-nodes-clause-extends c = search (arith, grown_twice)
 
 pub put_definitions-requires-clause-definitions : goal.put_definitions-requires-clause-definitions
-put_definitions-requires-clause-definitions c =
-    definitions_stay c.args.graph.now c.first_outputs.new.graph
-    (grown_twice c.args.graph.now c.by_rules.new.graph c.first_outputs.new.graph c.in_ok-others.ensures.extends
-    c.in_ok-nodes.ensures.extends)
-    c.args.f.now c.args.ranks.now c.args.definitions.now c.requires.definitions
+put_definitions-requires-clause-definitions c = search (arith, definitions_stay, grown_twice)
 
 pub put_definitions-requires-clause-one_each : goal.put_definitions-requires-clause-one_each
 put_definitions-requires-clause-one_each c =
@@ -40,16 +35,10 @@ put_definitions-requires-clause-nodes c =
     (c.in_ok-nodes.ensures.outputs c.args.rules.now by)
 
 pub returns-in_err-put_definitions-clause-extends : goal.returns-in_err-put_definitions-clause-extends
-returns-in_err-put_definitions-clause-extends c =
-    grown_twice c.args.graph.now c.first_outputs.new.graph c.put_definitions.new.graph
-    (grown_twice c.args.graph.now c.by_rules.new.graph c.first_outputs.new.graph c.in_ok-others.ensures.extends
-    c.in_ok-nodes.ensures.extends) c.put_definitions.ensures.extends
+returns-in_err-put_definitions-clause-extends c = search (arith, grown_twice)
 
 pub returns-clause-extends : goal.returns-clause-extends
-returns-clause-extends c =
-    grown_twice c.args.graph.now c.first_outputs.new.graph c.put_definitions.new.graph
-    (grown_twice c.args.graph.now c.by_rules.new.graph c.first_outputs.new.graph c.in_ok-others.ensures.extends
-    c.in_ok-nodes.ensures.extends) c.in_ok-put_definitions.ensures.extends
+returns-clause-extends c = search (arith, grown_twice)
 
 pub returns-clause-one_each : goal.returns-clause-one_each
 returns-clause-one_each c =

@@ -13,11 +13,7 @@ put_definition-requires-clause-place c =
     c.in_ok-order.ensures here)
 
 pub put_definition-requires-clause-few : goal.put_definition-requires-clause-few
-put_definition-requires-clause-few c =
-    let long = c.loop-at.invariant.one_each in
-    let same = c.loop-at.invariant.grown.inputs in
-    let size = c.requires.inputs in
-    omega (arith, long, same, size)
+put_definition-requires-clause-few c = search arith
 
 pub put_definition-requires-clause-definition : goal.put_definition-requires-clause-definition
 put_definition-requires-clause-definition c =
@@ -32,8 +28,7 @@ pub put_definition-requires-clause-nodes : goal.put_definition-requires-clause-n
 put_definition-requires-clause-nodes c = c.loop-at.invariant.are_nodes
 
 pub returns-in_err-put_definition-clause-extends : goal.returns-in_err-put_definition-clause-extends
-returns-in_err-put_definition-clause-extends c = grown_twice c.args.graph.now c.loop-at.graph
-    c.put_definition.new.graph c.loop-at.invariant.grown c.put_definition.ensures.extends
+returns-in_err-put_definition-clause-extends c = search (arith, grown_twice)
 
 pub loop-at-preserved : goal.loop-at-preserved
 loop-at-preserved c =

@@ -1,4 +1,4 @@
-use Rattle.std.proofs.Common.{[], ap, All, Contains, get_or, sym, subst}
+use Rattle.std.proofs.Common.{[], ap, All, Contains, get_or, sym, subst, arith}
 use Rattle.std.proofs.lemmas.Result.{IfOk-weaker}
 use Rattle.definition_order.proofs.Declared.{some_existential, sees_universals, known_at, declared_at}
 use Rattle.dq_lits.proofs.FormulaVariables.{seen_as}
@@ -8,8 +8,7 @@ use Rattle.candidate_functions.proofs.TreeNodes.{unruled}
 use Rattle.candidate_functions.proofs.guesses.learned.Goals as goal
 
 pub seen-requires : goal.seen-requires
-seen-requires c = declared_at c.args.known.now.f.now c.every_formula_is_lawful.ensures
-    c.existentials.result.now c.args.place c.existentials.ensures c.requires.place
+seen-requires c = search (arith, declared_at)
 
 pub node-requires-clause-seen : goal.node-requires-clause-seen
 node-requires-clause-seen c =

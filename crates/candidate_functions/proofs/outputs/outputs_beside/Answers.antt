@@ -8,12 +8,10 @@ use Rattle.candidate_functions.proofs.KnownPoints.{values_stay}
 use Rattle.candidate_functions.proofs.outputs.outputs_beside.Goals as goal
 
 pub returns-in_err-node-clause-extends : goal.returns-in_err-node-clause-extends
-returns-in_err-node-clause-extends c = grown_twice c.args.graph.now c.loop-place.graph c.first_output.new.graph
-    c.loop-place.invariant.grown c.first_output.ensures.extends
+returns-in_err-node-clause-extends c = search (arith, grown_twice)
 
 pub returns-in_err-push-clause-extends : goal.returns-in_err-push-clause-extends
-returns-in_err-push-clause-extends c = grown_twice c.args.graph.now c.loop-place.graph c.first_output.new.graph
-    c.loop-place.invariant.grown c.in_ok-node.ensures.extends
+returns-in_err-push-clause-extends c = search (arith, grown_twice)
 
 pub loop-place-preserved : goal.loop-place-preserved
 loop-place-preserved c =
@@ -40,6 +38,4 @@ returns-clause-outputs c = λ rules by.
     (c.loop-place.invariant.outputs rules by)
 
 pub first_output-requires-clause-values : goal.first_output-requires-clause-values
-first_output-requires-clause-values c =
-    values_stay c.args.graph.now c.loop-place.graph c.loop-place.invariant.grown c.args.known.now.table.now.rows
-    c.args.others.now.nodes.now c.args.others.now.values.now c.requires.others c.requires.values
+first_output-requires-clause-values c = search (arith, values_stay)

@@ -1,4 +1,4 @@
-use Rattle.std.proofs.Common.{false}
+use Rattle.std.proofs.Common.{false, arith}
 use Rattle.expansion.specs.Table.{point_bits}
 use Rattle.aig_graph.specs.declared.nodes.Node.TheVariants.{Constant}
 use Rattle.aig_graph.proofs.LargerGraphs.{grown_twice}
@@ -17,5 +17,4 @@ loop-pair-preserved c =
     c.loop-pair.invariant c.in_ok-made.ensures.extends c.in_ok-made.ensures.with
 
 pub returns-in_err-made-clause-extends : goal.returns-in_err-made-clause-extends
-returns-in_err-made-clause-extends c = grown_twice c.args.graph.now c.loop-pair.graph c.with_cube.new.graph
-    c.loop-pair.invariant.grown c.with_cube.ensures.extends
+returns-in_err-made-clause-extends c = search (arith, grown_twice)

@@ -1,5 +1,5 @@
 use Rattle.std.proofs.lemmas.Result.{IfOk-weaker}
-use Rattle.std.proofs.Common.{◌&&◌, false}
+use Rattle.std.proofs.Common.{◌&&◌, false, arith}
 use Rattle.aig_graph.specs.Made.{IsMade}
 use Rattle.aig_graph.proofs.LargerGraphs.{grown_twice}
 use Rattle.expansion.specs.Table.{point_bits}
@@ -11,8 +11,7 @@ pub and-requires-clause-b : goal.and-requires-clause-b
 and-requires-clause-b c = c.not.ensures.node c.at_pair.new.graph c.in_ok-zeros.ensures.at_pair.is_node
 
 pub returns-clause-extends : goal.returns-clause-extends
-returns-clause-extends c = grown_twice c.args.graph.now c.at_pair.new.graph c.and.new.self
-    c.in_ok-zeros.ensures.extends c.and.ensures.extends
+returns-clause-extends c = search (arith, grown_twice)
 
 pub returns-clause-masked : goal.returns-clause-masked
 returns-clause-masked c =

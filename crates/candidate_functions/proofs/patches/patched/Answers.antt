@@ -1,5 +1,5 @@
 use Rattle.std.proofs.lemmas.Result.{IfOk-weaker}
-use Rattle.std.proofs.Common.{◌||◌}
+use Rattle.std.proofs.Common.{◌||◌, arith}
 use Rattle.aig_graph.specs.Made.{IsMade}
 use Rattle.aig_graph.proofs.LargerGraphs.{grown_twice}
 use Rattle.expansion.specs.Table.{point_bits}
@@ -8,14 +8,10 @@ use Rattle.candidate_functions.proofs.PatchedNodes.{patched_by}
 use Rattle.candidate_functions.proofs.patches.patched.Goals as goal
 
 pub returns-in_err-ones-clause-extends : goal.returns-in_err-ones-clause-extends
-returns-in_err-ones-clause-extends c = grown_twice c.args.graph.now c.masked.new.graph c.at_pair.new.graph
-    c.in_ok-rest.ensures.extends c.at_pair.ensures.extends
+returns-in_err-ones-clause-extends c = search (arith, grown_twice)
 
 pub returns-clause-extends : goal.returns-clause-extends
-returns-clause-extends c =
-    let old = c.args.graph.now in
-    grown_twice old c.at_pair.new.graph c.or.new.self (grown_twice old c.masked.new.graph c.at_pair.new.graph
-    c.in_ok-rest.ensures.extends c.in_ok-ones.ensures.extends) c.or.ensures.extends
+returns-clause-extends c = search (arith, grown_twice)
 
 pub returns-clause-patched : goal.returns-clause-patched
 returns-clause-patched c =

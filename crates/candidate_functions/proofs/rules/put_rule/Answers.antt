@@ -1,4 +1,4 @@
-use Rattle.std.proofs.Common.{false, get_or, sym, ◌∙◌, subst, All, Contains}
+use Rattle.std.proofs.Common.{false, get_or, sym, ◌∙◌, subst, All, Contains, arith}
 use Rattle.dq_lits.specs.Literal.{Literal, variable_of}
 use Rattle.aig_graph.specs.Graph.{IsNode}
 use Rattle.aig_graph.specs.declared.nodes.Node.TheVariants.{Constant}
@@ -49,8 +49,7 @@ returns-in_ok-nodes-clause-nodes c = λ later are.
     (subst (λ ls. IsCubeNode f mid ls c.in_ok-cube.cube) c.lits.ensures c.in_ok-cube.ensures.node) chosen are
 
 pub returns-in_ok-nodes-clause-extends : goal.returns-in_ok-nodes-clause-extends
-returns-in_ok-nodes-clause-extends c = grown_twice c.args.graph.now c.cube_node.new.graph c.mux.new.self
-    c.in_ok-cube.ensures.extends c.in_ok-nodes.ensures.extends
+returns-in_ok-nodes-clause-extends c = search (arith, grown_twice)
 
 pub returns-in_default-clause-nodes : goal.returns-in_default-clause-nodes
 returns-in_default-clause-nodes c = λ later are.

@@ -1,14 +1,11 @@
-use Rattle.std.proofs.Common.{◌≡◌, drop, subst, arith}
+use Rattle.std.proofs.Common.{drop, arith}
 use Rattle.aig_graph.proofs.LargerGraphs.{grown_twice}
-use Rattle.candidate_functions.specs.Pairs.{AreByRules}
 use Rattle.candidate_functions.proofs.AllOutputs.{rule_nodes_are_nodes}
 use Rattle.candidate_functions.proofs.RuleNodes.{with_rule}
 use Rattle.candidate_functions.proofs.rules.put_rules.Goals as goal
 
 pub put_rule-requires-clause-nodes : goal.put_rule-requires-clause-nodes
-put_rule-requires-clause-nodes c =
-    rule_nodes_are_nodes c.args.f.now c.loop-at.graph (drop c.loop-at.at c.args.rules.now) c.loop-at.nodes.items
-    c.loop-at.invariant.nodes
+put_rule-requires-clause-nodes c = search (arith, rule_nodes_are_nodes)
 
 pub loop-at-preserved : goal.loop-at-preserved
 loop-at-preserved c = record {
@@ -22,11 +19,7 @@ loop-at-preserved c = record {
 }
 
 pub returns-in_err-put_rule-clause-extends : goal.returns-in_err-put_rule-clause-extends
-returns-in_err-put_rule-clause-extends c = grown_twice c.args.graph.now c.loop-at.graph c.put_rule.new.graph
-    c.loop-at.invariant.grown c.put_rule.ensures.extends
+returns-in_err-put_rule-clause-extends c = search (arith, grown_twice)
 
 pub returns-clause-nodes : goal.returns-clause-nodes
-returns-clause-nodes c =
-    let none : c.loop-at.at ≡ 0 = omega arith in
-    subst (λ n. AreByRules c.args.f.now c.loop-at.graph (drop n c.args.rules.now) c.loop-at.nodes.items) none
-    c.loop-at.invariant.nodes
+returns-clause-nodes c = search arith

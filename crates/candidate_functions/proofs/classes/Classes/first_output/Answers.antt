@@ -1,20 +1,15 @@
-use Rattle.std.proofs.Common.{◌≡◌, None, Some, slice_index_or, sym, ◌∙◌, subst}
+use Rattle.std.proofs.Common.{None, slice_index_or, arith}
 use Rattle.std.proofs.lemmas.Result.{IfOk-weaker}
-use Rattle.aig_graph.specs.Graph.{IsNode}
 use Rattle.expansion.specs.Table.{point_bits}
 use Rattle.candidate_functions.specs.Pairs.{IsCandidate, IsFirstOutput}
 use Rattle.definition_order.proofs.Declared.{known_at, declared_at}
 use Rattle.candidate_functions.proofs.classes.Classes.first_output.Goals as goal
 
 pub undefined_output-requires-clause-declared : goal.undefined_output-requires-clause-declared
-undefined_output-requires-clause-declared c = declared_at c.args.known.now.f.now c.every_formula_is_lawful.ensures
-    c.existentials.result.now c.args.place c.existentials.ensures c.requires.place
+undefined_output-requires-clause-declared c = search (arith, declared_at)
 
 pub returns-in-Some-clause-output : goal.returns-in-Some-clause-output
-returns-in-Some-clause-output c = λ rules y at by. record {
-  is_node = subst (IsNode c.args.graph.now) (sym c.constant.ensures) tt;
-  undefined = λ none. let e : None ≡ Some c.in-Some.field-0 = sym none ∙ sym c.given_at.ensures ∙ c.in-Some.is in cc;
-}
+returns-in-Some-clause-output c = search arith
 
 pub returns-in-None-clause-output : goal.returns-in-None-clause-output
 returns-in-None-clause-output c = λ rules y at by.

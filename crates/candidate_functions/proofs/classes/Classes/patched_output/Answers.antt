@@ -1,15 +1,12 @@
-use Rattle.std.proofs.Common.{◌≡◌, ◌<◌, List, Bool, Some, length, set, refl, sym, ◌∙◌, ap, subst, Contains, All, arith}
+use Rattle.std.proofs.Common.{◌≡◌, Some, length, set, sym, ◌∙◌, ap, subst, Contains, All, arith}
 use Rattle.std.proofs.lemmas.Result.{IfOk-weaker}
 use Rattle.std.proofs.lemmas.List.Elements.{All-weaker}
 use Rattle.dq_lits.specs.Formula.{Existential}
-use Rattle.aig_graph.specs.Graph.{IsNode}
 use Rattle.aig_graph.proofs.LargerGraphs.{grown_twice}
 use Rattle.definition_order.proofs.Declared.{is_variable, some_existential}
 use Rattle.expansion.specs.Table.{point_bits}
 use Rattle.candidate_functions.specs.Pairs.{AreRounds, IsClass, IsPlacedClass, universal_places, IsPatched, IsCandidate}
-use Rattle.row_pairs.specs.Pairs.{HasPlaces}
 use Rattle.candidate_functions.specs.Differing.{ArePatches}
-use Rattle.candidate_functions.specs.declared.cubes.Pair.{Pair}
 use Rattle.candidate_functions.proofs.DependencyClasses.{places_below, places_told, placed_there, class_put}
 use Rattle.candidate_functions.proofs.LargerGraphs.{placed_stays}
 use Rattle.candidate_functions.proofs.PatchedPairs.{pair_rounds_within, pair_cubes}
@@ -25,30 +22,10 @@ patched-requires-clause-existential c = subst (λ vs. Contains vs c.args.own.now
     (is_variable c.args.known.now.f.now c.args.own.now.y c.requires.declared)
 
 pub pairs_to_patch-requires-clause-whole : goal.pairs_to_patch-requires-clause-whole
-pairs_to_patch-requires-clause-whole c =
-    let f = c.args.known.now.f.now in
-    let v = c.args.own.now.y in
-    let places = c.in_ok-places.places.items in
-    let told = places_told f v places c.in_ok-places.ensures.places in
-    let below = places_below f c.every_formula_is_lawful.ensures v places
-    (length f.universals) refl c.requires.declared told in
-    subst (λ ps. All (HasPlaces ps) c.args.known.now.table.now.rows) (sym c.deref.ensures.value)
-    (All-weaker (λ (row : List Bool). length row ≡ length f.universals) (HasPlaces places)
-    (λ row long. subst (λ n. All (λ p. p < n) places) (sym long) below) c.args.known.now.table.now.rows
-    c.requires.whole)
+pairs_to_patch-requires-clause-whole c = search (arith, places_told, places_below, All-weaker)
 
 pub pairs_to_patch-requires-clause-places : goal.pairs_to_patch-requires-clause-places
-pairs_to_patch-requires-clause-places c =
-    let f = c.args.known.now.f.now in
-    let v = c.args.own.now.y in
-    let places = c.in_ok-places.places.items in
-    let told = places_told f v places c.in_ok-places.ensures.places in
-    let below = places_below f c.every_formula_is_lawful.ensures v places
-    (length f.universals) refl c.requires.declared told in
-    let room = c.requires.inputs in
-    subst (All (λ p. p < c.args.graph.now.inputs)) (sym c.deref.ensures.value)
-    (All-weaker (λ p. p < length f.universals) (λ p. p < c.args.graph.now.inputs)
-    (λ p b. omega (arith, room, b)) places below)
+pairs_to_patch-requires-clause-places c = search (arith, places_told, places_below, All-weaker)
 
 pub pairs_to_patch-requires-clause-class : goal.pairs_to_patch-requires-clause-class
 pairs_to_patch-requires-clause-class c =
@@ -70,15 +47,10 @@ patched-requires-clause-rounds c =
     (pair_rounds_within rows c.pairs_to_patch.new.graph c.deref.result.now c.in_ok-pairs.pairs.items each))
 
 pub patched-requires-clause-cubes : goal.patched-requires-clause-cubes
-patched-requires-clause-cubes c =
-    let g = c.pairs_to_patch.new.graph in
-    subst (All (λ (p : Pair). IsNode g p.cube)) (sym c.deref-2.ensures.value)
-    (pair_cubes c.args.known.now.table.now.rows g c.deref.result.now c.in_ok-pairs.pairs.items
-    c.in_ok-pairs.ensures.pairs.each)
+patched-requires-clause-cubes c = search (arith, pair_cubes)
 
 pub returns-clause-extends : goal.returns-clause-extends
-returns-clause-extends c = grown_twice c.args.graph.now c.pairs_to_patch.new.graph c.patched.new.graph
-    c.in_ok-pairs.ensures.extends c.patched.ensures.extends
+returns-clause-extends c = search (arith, grown_twice)
 
 pub returns-clause-classes : goal.returns-clause-classes
 returns-clause-classes c =

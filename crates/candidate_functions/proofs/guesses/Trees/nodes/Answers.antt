@@ -7,12 +7,10 @@ use Rattle.candidate_functions.proofs.TreeNodes.{NodesSoFar, node_more, all_node
 use Rattle.candidate_functions.proofs.guesses.Trees.nodes.Goals as goal
 
 pub returns-in_err-node-clause-extends : goal.returns-in_err-node-clause-extends
-returns-in_err-node-clause-extends c = grown_twice c.args.graph.now c.loop-place.graph c.node_at.new.graph
-    c.loop-place.invariant.grown c.node_at.ensures.extends
+returns-in_err-node-clause-extends c = search (arith, grown_twice)
 
 pub returns-in_err-push-clause-extends : goal.returns-in_err-push-clause-extends
-returns-in_err-push-clause-extends c = grown_twice c.args.graph.now c.loop-place.graph c.node_at.new.graph
-    c.loop-place.invariant.grown c.in_ok-node.ensures.extends
+returns-in_err-push-clause-extends c = search (arith, grown_twice)
 
 pub loop-place-preserved : goal.loop-place-preserved
 loop-place-preserved c =
@@ -32,6 +30,4 @@ returns-clause-nodes c =
     c.loop-place.invariant
 
 pub node_at-requires-clause-guesses : goal.node_at-requires-clause-guesses
-node_at-requires-clause-guesses c =
-    guesses_stay c.args.graph.now c.loop-place.graph c.loop-place.invariant.grown c.args.known.now.f.now
-    c.args.known.now.guesses.now c.requires.guesses
+node_at-requires-clause-guesses c = search (arith, guesses_stay)

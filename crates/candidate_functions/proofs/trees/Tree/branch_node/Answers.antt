@@ -1,6 +1,5 @@
 use Rattle.std.proofs.Common.{◌≡◌, ℕ, false, get_or, sym, subst, arith}
 use Rattle.std.proofs.lemmas.Result.{IfOk-weaker}
-use Rattle.aig_graph.specs.Graph.{IsNode}
 use Rattle.aig_graph.specs.Made.{IsChosen}
 use Rattle.aig_graph.specs.declared.nodes.Node.{Node}
 use Rattle.aig_graph.specs.declared.nodes.Node.TheVariants.{Constant}
@@ -11,19 +10,11 @@ use Rattle.candidate_functions.proofs.trees.Tree.branch_node.Goals as goal
 
 pub input-input-requires : goal.input-input-requires
 input-input-requires c =
-    let found = c.in-Some.ensures.lookup in
-    let room = c.requires.inputs in
-    let below = place_within c.args.f.now c.args.seen.now c.in-Some.x.now c.place_of.result c.requires.seen
-    (c.in-Some-Test.tested, found.3.0, sym found.1) c.place_of.ensures.place in
-    omega (arith, room, below)
+    search (arith, (place_within c.args.f.now c.args.seen.now c.in-Some.x.now c.place_of.result c.requires.seen))
 
 pub mux-requires-clause-c : goal.mux-requires-clause-c
 mux-requires-clause-c c =
-    let found = c.in-Some.ensures.lookup in
-    let room = c.requires.inputs in
-    let below = place_within c.args.f.now c.args.seen.now c.in-Some.x.now c.place_of.result c.requires.seen
-    (c.in-Some-Test.tested, found.3.0, sym found.1) c.place_of.ensures.place in
-    subst (IsNode c.args.graph.now) (sym c.input-input.ensures) (omega (arith, room, below))
+    search (arith, (place_within c.args.f.now c.args.seen.now c.in-Some.x.now c.place_of.result c.requires.seen))
 
 pub returns-in-Some-clause-node : goal.returns-in-Some-clause-node
 returns-in-Some-clause-node c =
