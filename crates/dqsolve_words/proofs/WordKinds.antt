@@ -12,7 +12,7 @@ use Rattle.clap.specs.Simple.{Shape}
 use Rattle.clap.specs.Kinds.{Kinds}
 use Rattle.clap.specs.Faults.{flags_fault, long_fault, other_fault}
 use Rattle.dqsolve_words.specs.Spelling.{Reading, Usage, behind_separator, behind_steps, is_flag, is_option, read_among, with_name, with_value}
-use Rattle.clap.specs.declared.error.kind.ErrorKind.TheVariants.{TooManyValues, UnknownArgument}
+use Rattle.clap.specs.declared.error.kind.ErrorKind.TheVariants.{UnknownArgument}
 use Rattle.dqsolve_words.proofs.Tables.{Fails, IsTable, fails_as, leaf, one_fails}
 
 and_both : (a b : Bool) → (a && b) ≡ true → (a ≡ true) × (b ≡ true)
@@ -205,15 +205,12 @@ module _ (u : Usage) (name : Text) (rules : List Rule) (table : IsTable u rules)
           (ap (λ t. bytes_eq t (codes "steps")) (sym (whole false has refl) ∙ same))) ∙ not_steps))
 
       flag_found : (b : Bool) → has_byte 61 text ≡ b → is_flag u f ≡ true → Fails (fault_by b)
-      flag_found true has known = fails_as (fault_by true) (TooManyValues ∷ [])
-          (ap (λ o. long_fault rules false o (Some value) h) (table.flag_long f known)) (one_fails TooManyValues [])
+      flag_found true has known = search (arith, fails_as, one_fails)
       flag_found false has known = absurd (true≢false (sym known ∙ ap (is_flag u) (whole false has refl) ∙ not_known))
 
       none_found : (b : Bool) → (u.steps && bytes_eq (codes "steps") f) ≡ false → is_flag u f ≡ false →
           Fails (fault_by b)
-      none_found b other unknown_flag = fails_as (fault_by b) refused_kinds
-          (ap (λ o. long_fault rules false o (cond b (Some value) None) h) (table.other_long f other unknown_flag))
-          (one_fails UnknownArgument [])
+      none_found b other unknown_flag = search (arith, fails_as, one_fails)
 
       flagged : (b : Bool) → (u.steps && bytes_eq (codes "steps") f) ≡ false → is_flag u f ≡ b → Fails (fault_by (has_byte 61 text))
       flagged true other known = flag_found (has_byte 61 text) refl known
@@ -263,10 +260,7 @@ module _ (u : Usage) (name : Text) (rules : List Rule) (table : IsTable u rules)
       by_value false not_steps valued = by_flag (is_flag u text) not_steps valued refl
 
       by_steps : (b : Bool) → (u.steps && bytes_eq text (codes "steps")) ≡ b → Kind word
-      by_steps true is =
-          let (takes, same) = and_both u.steps (bytes_eq text (codes "steps")) is in
-          is_steps takes (ap (λ t. 45 ∷ 45 ∷ t) ((bytes_eq-Decides text (codes "steps")).0 same))
-          (ap (λ b. word_by false b has_steps_value (is_flag u text) true (drop 8 word) text) is)
+      by_steps true is = search (arith, and_both, codes, is_steps, bytes_eq-Decides)
       by_steps false is = by_value has_steps_value is refl
 
   -- a word whose first byte is or isn't a minus
