@@ -5,7 +5,8 @@ use Rattle.candidate_functions.proofs.TreeNodes.{tree_more}
 use Rattle.candidate_functions.proofs.trees.Tree.node.Goals as goal
 
 pub returns-in_err-nodes-2-clause-extends : goal.returns-in_err-nodes-2-clause-extends
-returns-in_err-nodes-2-clause-extends c = search (arith, grown_twice)
+returns-in_err-nodes-2-clause-extends c = grown_twice c.args.graph.now c.loop-at.graph c.branch_node.new.graph
+    c.loop-at.invariant.grown c.branch_node.ensures.extends
 
 pub loop-at-preserved : goal.loop-at-preserved
 loop-at-preserved c =
