@@ -294,8 +294,7 @@ module _ (f : Dqbf) (p : Definability) (spare : Group) (old log : ProofLog) (non
 pub after_copies : (f : Dqbf) (numbered : List ℕ) (p q r : Definability) (first middle last : ProofLog) →
     CanGiveCopies f numbered f (store_of p) first.entries → IsFollowing f numbered (store_of p) first (store_of q) middle →
     HasMore f q middle r last → IsFollowing f numbered (store_of p) first (store_of r) last
-after_copies f numbered p q r first middle last h x y =
-    following_on f numbered f (store_of p) (store_of q) (store_of r) first middle last h x (y.follows f numbered)
+after_copies f numbered p q r first middle last h x y = search (arith, following_on, y.follows)
 
 pub given_none : (f : Dqbf) (p : Definability) (old new : ProofLog) → new ≡ old →
     CanGiveFile f p old.entries → HasMoreGiven f p old p new
@@ -319,13 +318,7 @@ before_more f p q old new i x before has j low high = elim (same_or_not j (i + 1
 -- copies of a clause's variables, and then of the clause
 pub by_copies : (f : Dqbf) (p q : Definability) (old new : ProofLog) →
     CanGiveFile f p old.entries → HasMore f p old q new → HasMoreGiven f p old q new
-by_copies f p q old new h x = record {
-  follows = x.follows f (replicate (length f.matrix) 0) h.standing;
-  long = ap (λ ns. length ns.items) x.given;
-  frames = x.frames;
-  first_groups = x.first_groups;
-  second_groups = x.second_groups;
-}
+by_copies f p q old new h x = search (arith, replicate, x.follows)
 
 pub by_clause : (f : Dqbf) (p q : Definability) (clause : LiveClause) (old new : ProofLog) →
     IsReceiving f (replicate (length f.matrix) 0) f (store_of p) clause old.entries → Receives f p old clause q new →

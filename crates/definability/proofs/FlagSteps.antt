@@ -45,11 +45,7 @@ copied_more f old new v more is k at = more.stays k (is k at)
 pub other_marked : (f : Dqbf) (flags : List Bool) (v : ℕ) → length flags ≡ length f.universals →
     (Contains f.universals v → ⊥) → IsCopied f flags v
 other_marked f flags v as_many none k at = elim (declared_cases f.universals (existential_variables f) k v at) [
-  | inl universal ↦ absurd (none (
-    k,
-    slice_get_within f.universals k v universal,
-    get_or_there f.universals k v universal,
-  ))
+  | inl universal ↦ search (arith, (slice_get_within f.universals k v), (get_or_there f.universals k v))
   | inr far ↦ flag_past flags k (omega (arith, far, as_many))
 ]
   where

@@ -143,20 +143,4 @@ module _ (q : Partition) (f : Dqbf) (places : List ℕ) (y : ℕ) (conditions : 
 
   pub copies_share : (graph : AigGraph) → AreSharedCopies f places q.entries graph q.shared → SharesAll q
   copies_share graph shared v of_a of_b =
-      let name = name_of q.entries v in
-      elim (a_kind v of_a) [
-        | inl a ↦ elim (b_kind v of_b) [
-          | inl b ↦ absurd (true≢false (sym a.1 ∙ b.1))
-          | inr copies ↦ elim copies [
-            | inl copy ↦ absurd (selector_copy name v 2 copy.2.0 a.0 (copy.1 ∙ ap Some copy.2.1))
-            | inr seen ↦ absurd (selector_copy name v 1 seen.0 a.0 seen.1)
-          ]
-        ]
-        | inr a ↦ elim (b_kind v of_b) [
-          | inl b ↦ absurd (selector_copy name v 1 a.2.0 b.0 (a.1 ∙ ap Some a.2.1))
-          | inr copies ↦ elim copies [
-            | inl copy ↦ absurd (copy_sides name a.2.0 copy.2.0 (a.1 ∙ ap Some a.2.1) (copy.1 ∙ ap Some copy.2.1))
-            | inr seen ↦ shared.all v seen.0 seen.1 seen.2
-          ]
-        ]
-      ]
+      search (arith, (a_kind v of_a), (b_kind v of_b), true≢false, selector_copy, copy_sides)

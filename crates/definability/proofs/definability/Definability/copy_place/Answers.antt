@@ -25,13 +25,14 @@ loop-part-preserved g c =
 
 pub returns-clause-more : goal.returns-clause-more
 returns-clause-more g c =
-    let part = c.loop-part.invariant.2 in
-    let past = c.loop-part-test.false in
-    more_then c.args.f.now c.args.self.now c.loop-part.self c.flag.new.self c.args.log.now c.loop-part.log c.loop-part.log
-    c.loop-part.invariant.1
-    (flagged_more c.args.f.now c.loop-part.self c.flag.new.self c.loop-part.log c.args.place
-    (g.met.O.Oracle.searched c.loop-part.oracle c.loop-part.log c.loop-part.invariant.0).logged (omega (arith, part, past))
-    c.flag.ensures.same c.flag.ensures.flag c.flag.ensures.none)
+    search (
+      arith,
+      (more_then c.args.f.now c.args.self.now c.loop-part.self c.flag.new.self c.args.log.now c.loop-part.log c.loop-part.log c.loop-part.invariant.1),
+      (flagged_more c.args.f.now c.loop-part.self c.flag.new.self c.loop-part.log c.args.place (g.met.O.Oracle.searched c.loop-part.oracle c.loop-part.log c.loop-part.invariant.0).logged),
+      c.loop-part.invariant.2,
+      c.loop-part-test.false,
+      g.met.O.Oracle.searched,
+    )
 
 pub returns-clause-parts : goal.returns-clause-parts
 returns-clause-parts g c = search (arith, parts_stay)

@@ -1,4 +1,4 @@
-use Rattle.std.proofs.Common.{length, replicate, ◌∙◌, ap, slice_get, arith, List, ℕ}
+use Rattle.std.proofs.Common.{length, replicate, ◌∙◌, ap, arith, List, ℕ}
 use Rattle.list_laws.proofs.Results.{on_ok}
 use Rattle.definability.specs.Store.{store_of}
 use Rattle.definability.specs.declared.definability.Definability.{Definability}
@@ -11,8 +11,7 @@ open_frame-requires-clause-frame g c = let one = c.requires.frames in omega (ari
 
 pub returns-in_err-open_frame-clause-following : goal.returns-in_err-open_frame-clause-following
 returns-in_err-open_frame-clause-following g c =
-    let f = c.args.f.now in
-    c.open_frame.ensures.following f (replicate (length f.matrix) 0) f c.requires.standing
+    search (arith, replicate, c.args.f.now, c.open_frame.ensures.following)
 
 pub returns-in_err-open_frame-clause-first_groups : goal.returns-in_err-open_frame-clause-first_groups
 returns-in_err-open_frame-clause-first_groups g c = ap (λ (p : Definability). p.first.groups) c.open_frame.ensures.same
@@ -32,11 +31,7 @@ copy_places-requires-clause-standing g c =
 
 pub returns-in_err-copy_places-clause-following : goal.returns-in_err-copy_places-clause-following
 returns-in_err-copy_places-clause-following g c =
-    let f = c.args.f.now in
-    let numbered : List ℕ = replicate (length f.matrix) 0 in
-    after_copies f numbered c.args.self.now c.open_frame.new.self c.copy_places.new.self c.args.log.now
-    c.open_frame.new.log c.copy_places.new.log c.requires.standing
-    (c.open_frame.ensures.following f numbered f c.requires.standing) c.copy_places.ensures.more
+    search (arith, replicate, after_copies, c.args.f.now, c.open_frame.ensures.following)
 
 pub returns-in_err-copy_places-clause-first_groups : goal.returns-in_err-copy_places-clause-first_groups
 returns-in_err-copy_places-clause-first_groups g c = search arith
@@ -49,31 +44,17 @@ give_matrix-requires-clause-open_file g c =
     let f = c.args.f.now in
     let numbered : List ℕ = replicate (length f.matrix) 0 in
     record {
-      standing = standing_on f numbered f (store_of c.args.self.now) (store_of c.copy_places.new.self) c.args.log.now
-          c.copy_places.new.log c.requires.standing
-          (after_copies f numbered c.args.self.now c.open_frame.new.self c.copy_places.new.self c.args.log.now
-          c.open_frame.new.log c.copy_places.new.log c.requires.standing
-          (c.open_frame.ensures.following f numbered f c.requires.standing) c.copy_places.ensures.more);
+      standing = search (arith, standing_on, after_copies, c.open_frame.ensures.following);
       complete = λ k past.
           let low = c.requires.from in c.in_ok-copy_places.ensures.copied.complete k (omega (arith, low, past));
       given = ap (λ ns. length ns.items) c.copy_places.ensures.more.given
           ∙ ap (λ (p : Definability). length p.given.items) c.open_frame.ensures.same ∙ c.requires.given;
-      opened = (
-        c.in_ok-open_frame.ensures.opened.0,
-        ap (λ fs. slice_get fs.items 0) c.copy_places.ensures.more.frames ∙ c.in_ok-open_frame.ensures.opened.1,
-      );
+      opened = search arith;
     }
 
 pub returns-clause-following : goal.returns-clause-following
 returns-clause-following g c =
-    let f = c.args.f.now in
-    let numbered : List ℕ = replicate (length f.matrix) 0 in
-    following_then f numbered (store_of c.args.self.now) (store_of c.copy_places.new.self)
-    (store_of c.give_matrix.new.self) c.args.log.now c.copy_places.new.log c.give_matrix.new.log
-    (after_copies f numbered c.args.self.now c.open_frame.new.self c.copy_places.new.self c.args.log.now
-    c.open_frame.new.log c.copy_places.new.log c.requires.standing
-    (c.open_frame.ensures.following f numbered f c.requires.standing) c.copy_places.ensures.more)
-    c.give_matrix.ensures.more.follows
+    search (arith, replicate, following_then, after_copies, c.args.f.now, c.open_frame.ensures.following)
 
 pub returns-clause-first_groups : goal.returns-clause-first_groups
 returns-clause-first_groups g c = search arith
