@@ -1,7 +1,7 @@
 -- Two halves of a choice.
-use Rattle.std.proofs.Common.{◌≡◌, ℕ, Bool, true, false, not, inl, inr, List, Some, refl, sym, ◌∙◌, ap, if◌then◌else◌}
+use Rattle.std.proofs.Common.{◌≡◌, ℕ, Bool, true, false, not, List, Some, refl, arith}
 use Rattle.std.proofs.lemmas.Bool.{cases_Bool}
-use Rattle.dq_lits.specs.Literal.{opposite, same_literal, literal_true}
+use Rattle.dq_lits.specs.Literal.{opposite, same_literal}
 use Rattle.dq_lits.specs.Formula.{Existential, Dqbf, existential_of}
 use Rattle.dq_lits.proofs.Truth.{same_literal-sound, literal_true-opposite}
 use Rattle.dq_lits.proofs.FormulaVariables.{find_sound}
@@ -21,17 +21,4 @@ pub is_choice : (f : Dqbf) (ranks : List ℕ) (y : ℕ) (e : Existential) (half 
     → IsHalf f y half → IsHalf f y other → AreReadable f ranks e (choice_literals (choice_of half other)) →
     IsChoice f ranks e (choice_of half other)
 is_choice f ranks y e half other known against first second reads =
-    let own = (find_sound y f.existentials e known).1 in
-    record {
-      reads = reads;
-      same = λ m holds. elim (cases_Bool (literal_true m half.condition)) [
-        | inl is ↦ ap m own ∙ first m holds is ∙ sym (ap (λ b. if b then literal_true m half.value else literal_true m
-            other.value) is)
-        | inr denied ↦ (
-            let turned : literal_true m other.condition ≡ true =
-            ap (literal_true m) (same_literal-sound other.condition (opposite half.condition) against)
-            ∙ literal_true-opposite m half.condition ∙ ap not denied in
-            ap m own ∙ second m holds turned ∙ sym (ap (λ b. if b then literal_true m half.value else literal_true m
-            other.value) denied))
-      ];
-    }
+    search (arith, find_sound, cases_Bool, same_literal-sound, literal_true-opposite)

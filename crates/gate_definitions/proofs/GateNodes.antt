@@ -91,9 +91,7 @@ module _ (f : Dqbf) (graph : AigGraph) (inputs : graph.inputs ≡ length f.unive
 
   pub nodes_are : (lits : List Literal) → All (λ l. Contains (declared f) (variable_of l)) lits →
       All (IsNode graph) (map (literal_node f) lits)
-  nodes_are lits among = All-map (IsNode graph) (literal_node f) lits
-      (All-weaker (λ l. Contains (declared f) (variable_of l))
-      (λ l. IsNode graph (literal_node f l)) literal_is_node lits among)
+  nodes_are lits among = search (arith, All-map, All-weaker, literal_is_node)
 
   cube_value : (m : Assignment) (lits : List Literal) → All (λ l. Contains (declared f) (variable_of l)) lits →
       list_all (node_value graph (values m)) (map (literal_node f) lits) ≡ cube_true m lits

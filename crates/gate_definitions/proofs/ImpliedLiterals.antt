@@ -1,5 +1,5 @@
 -- What clauses say of literals.
-use Rattle.std.proofs.Common.{◌≡◌, ℕ, Bool, true, false, not, ◌||◌, ◌&&◌, cond, inl, inr, List, [], ◌∷◌, map, filter, All, refl, sym, ◌∙◌, ap, true≢false}
+use Rattle.std.proofs.Common.{◌≡◌, ℕ, Bool, true, false, not, ◌||◌, ◌&&◌, cond, inl, inr, List, [], ◌∷◌, map, filter, All, refl, sym, ◌∙◌, ap, true≢false, arith}
 use Rattle.std.specs.List.{list_any, list_all}
 use Rattle.std.proofs.lemmas.Bool.{or_cases, and_parts, cases_Bool}
 use Rattle.std.proofs.lemmas.List.Elements.{All-head, All-tail}
@@ -15,12 +15,7 @@ use Rattle.gate_definitions.specs.Stating.{IsImplied, Implies, AreReadable, IsCo
 true_in_cube : (m : Assignment) (cube : List Literal) (l : Literal) → cube_true m cube ≡ true →
     list_any (λ c. same_literal c l) cube ≡ true → literal_true m l ≡ true
 true_in_cube m [] l all h = cc
-true_in_cube m (c ∷ cube) l all h =
-    let parts = and_parts (literal_true m c) (cube_true m cube) all in
-    elim (or_cases (same_literal c l) (list_any (λ k. same_literal k l) cube) h) [
-      | inl same ↦ ap (literal_true m) (sym (same_literal-sound c l same)) ∙ parts.0
-      | inr later ↦ true_in_cube m cube l parts.1 later
-    ]
+true_in_cube m (c ∷ cube) l all h = search (arith, and_parts, or_cases, same_literal-sound, (true_in_cube m cube l))
 
 abbrev test : List Literal → Literal → Literal → Bool
 test cube l k = same_literal k l || list_any (λ c. same_literal c (opposite k)) cube

@@ -6,9 +6,7 @@ pub invariant_of-output-clause-existential : goal.invariant_of-output-clause-exi
 invariant_of-output-clause-existential c = c.requires.existential
 
 pub invariant_of-output-clause-from_one : goal.invariant_of-output-clause-from_one
-invariant_of-output-clause-from_one c = (number_range c.args.f.now c.every_formula_is_lawful.ensures c.args.y
-    c.requires.existential).0
+invariant_of-output-clause-from_one c = search (arith, number_range)
 
 pub invariant_of-output-clause-in_range : goal.invariant_of-output-clause-in_range
-invariant_of-output-clause-in_range c = let range = number_range c.args.f.now c.every_formula_is_lawful.ensures c.args.y
-    c.requires.existential in let most = range.1 in omega (arith, most)
+invariant_of-output-clause-in_range c = search (arith, number_range)

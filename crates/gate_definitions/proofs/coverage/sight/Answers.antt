@@ -1,6 +1,6 @@
+use Rattle.std.proofs.Common.{arith}
 use Rattle.definition_order.proofs.Declared.{declared_at}
 use Rattle.gate_definitions.proofs.coverage.sight.Goals as goal
 
 pub seen-requires : goal.seen-requires
-seen-requires c = declared_at c.args.f.now c.every_formula_is_lawful.ensures c.existentials.result.now c.args.place
-    c.existentials.ensures c.requires
+seen-requires c = search (arith, declared_at)

@@ -2,19 +2,11 @@ use Rattle.std.proofs.Common.{sym, ap, ◌+◌, ◌∙◌, arith, length}
 use Rattle.std.proofs.lemmas.List.{length-map}
 use Rattle.list_laws.proofs.Folds.{placed_below}
 use Rattle.dq_formula.specs.Prefix.{existential_variables}
-use Rattle.definition_order.proofs.Declared.{variable}
 use Rattle.gate_definitions.proofs.DeclaredPlaces.{placed_second, placed_nowhere}
 use Rattle.gate_definitions.proofs.literals.existential_input.Goals as goal
 
 pub overflow_add-result : goal.overflow_add-result
-overflow_add-result c =
-    let f = c.args.f.now in
-    let few = c.requires.few in
-    let long = ap length c.universals.ensures in
-    let many = length-map f.existentials variable in
-    let below = placed_below (existential_variables f) c.args.v c.in-Some.place
-    (sym c.existential_place.ensures ∙ c.in-Some.is) in
-    omega (arith, few, long, many, below)
+overflow_add-result c = search (arith, length-map, placed_below)
 
 pub unreachable-requires : goal.unreachable-requires
 unreachable-requires c =

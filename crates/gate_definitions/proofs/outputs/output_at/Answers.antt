@@ -4,8 +4,7 @@ use Rattle.gate_definitions.proofs.DeclaredPlaces.{number_range}
 use Rattle.gate_definitions.proofs.outputs.output_at.Goals as goal
 
 pub invariant_of-result-clause-existential : goal.invariant_of-result-clause-existential
-invariant_of-result-clause-existential c = declared_at c.args.f.now c.every_formula_is_lawful.ensures
-    c.existentials.result.now c.args.place c.existentials.ensures c.requires
+invariant_of-result-clause-existential c = search (arith, declared_at)
 
 pub invariant_of-result-clause-from_one : goal.invariant_of-result-clause-from_one
 invariant_of-result-clause-from_one c =

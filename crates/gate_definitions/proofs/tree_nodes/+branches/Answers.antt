@@ -1,4 +1,4 @@
-use Rattle.std.proofs.Common.{◌∷◌, ◌∙◌, IfSome, Contains, sym, subst}
+use Rattle.std.proofs.Common.{◌∷◌, ◌∙◌, IfSome, Contains, sym, subst, arith}
 use Rattle.dq_lits.specs.Literal.{variable_of}
 use Rattle.dq_lits.specs.Formula.{declared}
 use Rattle.aig_graph.specs.Graph.{IsNode}
@@ -21,12 +21,10 @@ test_node-node_of-input-requires-clause-declared t c =
     (subst (MayRead f ranks e) c.var.ensures.value ((c.may_read.ensures e known).0 c.if-not-may_read.false)))
 
 pub test_node-returns-in_err-zero-clause-extends : goal.test_node-returns-in_err-zero-clause-extends
-test_node-returns-in_err-zero-clause-extends t c = grown_twice c.args.graph.now c.side_node.new.graph
-    c.side_node-2.new.graph c.side_node.ensures.extends c.side_node-2.ensures.extends
+test_node-returns-in_err-zero-clause-extends t c = search (arith, grown_twice)
 
 pub test_node-returns-in_default-2-clause-extends : goal.test_node-returns-in_default-2-clause-extends
-test_node-returns-in_default-2-clause-extends t c = grown_twice c.args.graph.now c.side_node.new.graph
-    c.side_node-2.new.graph c.side_node.ensures.extends c.side_node-2.ensures.extends
+test_node-returns-in_default-2-clause-extends t c = search (arith, grown_twice)
 
 pub test_node-mux-requires-clause-c : goal.test_node-mux-requires-clause-c
 test_node-mux-requires-clause-c t c =
@@ -61,16 +59,10 @@ test_node-mux-requires-clause-e t c =
     (c.in_ok-zero.ensures.defines e known)).is_node)
 
 pub test_node-returns-in_err-made-clause-extends : goal.test_node-returns-in_err-made-clause-extends
-test_node-returns-in_err-made-clause-extends t c =
-    grown_twice c.args.graph.now c.side_node-2.new.graph c.mux.new.self
-    (grown_twice c.args.graph.now c.side_node.new.graph c.side_node-2.new.graph c.side_node.ensures.extends
-    c.side_node-2.ensures.extends) c.mux.ensures.extends
+test_node-returns-in_err-made-clause-extends t c = search (arith, grown_twice)
 
 pub test_node-returns-clause-extends : goal.test_node-returns-clause-extends
-test_node-returns-clause-extends t c =
-    grown_twice c.args.graph.now c.side_node-2.new.graph c.mux.new.self
-    (grown_twice c.args.graph.now c.side_node.new.graph c.side_node-2.new.graph c.side_node.ensures.extends
-    c.side_node-2.ensures.extends) c.mux.ensures.extends
+test_node-returns-clause-extends t c = search (arith, grown_twice)
 
 pub test_node-returns-clause-defines : goal.test_node-returns-clause-defines
 test_node-returns-clause-defines t c = λ e known.
