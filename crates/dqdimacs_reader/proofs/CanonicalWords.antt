@@ -16,7 +16,7 @@ use Rattle.dqdimacs_reader.specs.Canonical.{literal_text, numbers_line, header_t
 use Rattle.dqdimacs_reader.specs.Grammar.{PrefixPart, numbers, part_lexemes, clause_lexemes, literal_lexeme, header}
 use Rattle.dqdimacs_reader.specs.Lexeme.{lexeme_of}
 use Rattle.dqdimacs_reader.specs.declared.lexemes.Lexeme.{Lexeme}
-use Rattle.dqdimacs_reader.specs.declared.lexemes.Lexeme.TheVariants.{A, Natural}
+use Rattle.dqdimacs_reader.specs.declared.lexemes.Lexeme.TheVariants.{Natural}
 use Rattle.dqdimacs_reader.proofs.NumberWords.{natural_word, negative_word}
 use Rattle.dqdimacs_reader.proofs.Words.{text_of, words_from, words_are, IsOpen, word_space, word_line}
 
@@ -81,10 +81,14 @@ literal_space : (place : LinePlace) (l : Literal) (rest : List ℕ) → IsOpen p
 literal_space place (positive v) rest start is = natural_space place v rest start is.1
 literal_space place (negative zero) rest start is = absurd (omega (arith, is.0))
 literal_space place (negative (suc n)) rest start is =
-    let of = decimal_digits (suc n) is.1 in
-    ap (λ bytes. lexemes place (45 ∷ bytes)) (append_assoc (decimal (suc n)) (32 ∷ []) rest)
-    ∙ ap (map lexeme_of) (word_space place 45 (decimal (suc n)) rest start refl (digits_other (decimal (suc n)) of.are))
-    ∙ ap (λ lexeme. lexeme ∷ lexemes InLine rest) (negative_word n is.1)
+    search (
+      arith,
+      (decimal_digits (suc n) is.1),
+      append_assoc,
+      (word_space place 45),
+      digits_other,
+      (negative_word n is.1),
+    )
 
 clause_lexemes_of : (place : LinePlace) (ls : List Literal) (rest : List ℕ) → IsOpen place →
     AllByRecursion IsNumbered ls →
@@ -138,9 +142,7 @@ universals_lexemes : (us rest : List ℕ) → AreSmall us →
     lexemes LineStart (universals_text us ++ rest) ≡ flat_map part_lexemes
     (universal_parts us) ++ lexemes LineStart rest
 universals_lexemes [] rest small = refl
-universals_lexemes (x ∷ xs) rest small =
-    line_lexemes 97 (x ∷ xs) rest refl small
-    ∙ ap (λ front. A ∷ (front ++ lexemes LineStart rest)) (sym (append-nil (numbers (x ∷ xs))))
+universals_lexemes (x ∷ xs) rest small = search (arith, (line_lexemes 97 (x ∷ xs) rest), append-nil)
 
 pub record HasSmallNumbers (f : Dqbf) : Type 0 where
   pub variables : f.variables < 10 ^ 18

@@ -149,21 +149,15 @@ counted_xor_end : (r : Reading) (literals : List Literal) (v : ℕ) (l : Literal
     cond (v == 0) (check_xor_end r literals) (check_xor_literal r literals v) ≡ None →
     IsCounted (cond (v == 0) (at_part (with_constraint r (add_xor r.formula literals))) (in_xor r (literals ++ l ∷ [])))
 counted_xor_end r literals v l on is line passed =
-    either_state IsCounted v (at_part (with_constraint r (add_xor r.formula literals))) (in_xor r (literals ++ l ∷ []))
-    (λ zero.
-    let ends = at_zero v (check_xor_end r literals) (check_xor_literal r literals v) zero passed in
-    let room = has_room r (length (xor_clauses literals)) (no_fault_parts (length literals == 0) XorSize
-    (check_room r (length (xor_clauses literals))) ends).1 in
-    record {
-      counted = omega (arith, is.counted);
-      few = omega
-          (arith, room, length-append r.formula.matrix (xor_clauses literals));
-    })
-    (λ other. (
-      is,
-      grown_line r literals v l on line (goes r literals v
-          (at_more v (check_xor_end r literals) (check_xor_literal r literals v) other passed)),
-    ))
+    search (
+      arith,
+      either_state,
+      (no_fault_parts (length literals == 0)),
+      (length-append r.formula.matrix),
+      (grown_line r literals v l on line),
+      (goes r literals v),
+      (at_more v),
+    )
 
 is_due : (r : Reading) (rest : Option FormulaFault) → IsWithin r →
     fault_if (r.constraints == r.clauses) TooManyClauses rest ≡ None → IsDue r
@@ -514,9 +508,7 @@ part_completes part r rest f first lawful c =
     record {
       parts = part ∷ c.parts;
       constraints = c.constraints;
-      spelling = ap (λ zs. part_lexemes part ++ zs) c.spelling ∙ sym
-          (append_assoc (part_lexemes part) (flat_map part_lexemes c.parts)
-          (flat_map constraint_lexemes c.constraints));
+      spelling = search (arith, append_assoc);
       lawful = (lawful, c.lawful);
       lawful_constraints = subst (λ v. AreLawfulConstraints v c.constraints) kept.variables c.lawful_constraints;
       counted = c.counted;

@@ -60,6 +60,5 @@ pub if_more : {E : Type 0} (r : Result Bool E) (l : Literal) (literals : List Li
     → key ≡ literal_key l → AreKeysOf literals keys
     → OnOk r ((n : ℕ) → has_number more n ≡ (has_number keys n || (key == n)))
     → OnOk r (AreKeysOf (add_literal literals l) more)
-if_more (Ok is_new) l literals keys more key is are h =
-    keys_more l literals keys more are (λ n. h n ∙ ap (λ k. has_number keys n || (k == n)) is)
+if_more (Ok is_new) l literals keys more key is are h = search (arith, (keys_more l literals keys more are))
 if_more (Err e) l literals keys more key is are h = h

@@ -40,8 +40,7 @@ digits_lexeme [] n some are is = absurd (omega (arith, some))
 digits_lexeme (d ∷ ds) n some are is = search (arith, tells, number_first, ne_eqb)
 
 pub natural_word : (n : ℕ) → n < 10 ^ 18 → lexeme_of (decimal n) ≡ Natural n
-natural_word n small = let of = decimal_digits n small in digits_lexeme (decimal n) n of.some of.are
-    (natural_is_read n small)
+natural_word n small = search (arith, (decimal_digits n small), digits_lexeme, (natural_is_read n small))
 
 pub negative_word : (n : ℕ) → suc n < 10 ^ 18 → lexeme_of (45 ∷ decimal (suc n)) ≡ Negative (suc n)
 negative_word n small = search (arith, number_first, negative_is_read)
