@@ -29,6 +29,7 @@ pub record LiteralsSoFar (f : Dqbf) (graph : AigGraph) (inputs : List Literal) (
     (old : ProofLog) (gates : Gates) (log : ProofLog) (literals : List Literal) (i : ℕ) : Type 0 where
   pub grew : GrewByGates (variable_of first.group.selector) old log
   pub group : gates.group ≡ first.group
+  pub earlier : gates.earlier ≡ first.earlier
   pub faults : fault_groups log.entries ≡ fault_groups old.entries
   pub few : length (fault_groups log.entries) ≤ fault_room log.entries
   pub bads : AreBadsStill old.entries log.entries
@@ -43,6 +44,7 @@ pub record IsNextLiteral (f : Dqbf) (graph : AigGraph) (marks : List Bool) (gate
     (more : Gates) (new : ProofLog) (l : Literal) (i : ℕ) : Type 0 where
   pub grew : GrewByGates (variable_of gates.group.selector) log new
   pub group : more.group ≡ gates.group
+  pub earlier : more.earlier ≡ gates.earlier
   pub faults : fault_groups new.entries ≡ fault_groups log.entries
   pub bads : AreBadsStill log.entries new.entries
   pub known : AreKnown more new.entries
@@ -72,6 +74,7 @@ pub literal_more : (f : Dqbf) (graph : AigGraph) (inputs : List Literal) (marks 
 literal_more f graph inputs marks first old gates log more new literals l i before next = record {
   grew = grew_in_all first gates old log new before.grew before.group next.grew;
   group = next.group ∙ before.group;
+  earlier = next.earlier ∙ before.earlier;
   faults = next.faults ∙ before.faults;
   few = subst (λ xs. length xs ≤ fault_room new.entries) (sym next.faults)
       (subst (λ n. length (fault_groups log.entries) ≤ n) (sym rest.room) before.few);

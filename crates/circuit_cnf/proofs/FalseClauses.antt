@@ -1,10 +1,12 @@
 -- Values that make the clauses of a turn true falsify a clause of the matrix.
-use Rattle.std.proofs.Common.{◌≡◌, ℕ, suc, ◌+◌, ◌<◌, Bool, true, false, not, cond, ◌||◌, ◌&&◌, inl, inr, List, [], ◌∷◌, length, get_or, slice_get, Some, None, refl, sym, ◌∙◌, ap, subst, arith}
+use Rattle.std.proofs.Common.{◌≡◌, ℕ, suc, ◌+◌, ◌<◌, Bool, true, false, not, cond, ◌||◌, ◌&&◌, inl, inr, List, [], ◌∷◌, length, map, get_or, slice_get, Some, None, refl, sym, ◌∙◌, ap, subst, arith}
 use Rattle.std.specs.List.{Contains}
 use Rattle.std.proofs.lemmas.Bool.{false≢true}
-use Rattle.std.proofs.lemmas.List.Elements.{Contains-append_right}
+use Rattle.std.proofs.lemmas.List.Elements.{All-contains, Contains-append_right}
 use Rattle.list_laws.proofs.Truths.{gate_bit}
 use Rattle.list_laws.proofs.Elements.{place_within}
+use Rattle.list_laws.proofs.Members.{contains_map}
+use Rattle.dq_lits.proofs.SignedLiterals.{as_positive}
 use Rattle.dq_lits.specs.Literal.{Assignment, Literal, positive, negative, variable_of, is_negative, opposite, literal_true, clause_true}
 use Rattle.dq_lits.specs.Formula.{Dqbf}
 use Rattle.dq_lits.specs.Derivation.{LiveClauses, MakesTrue}
@@ -22,16 +24,21 @@ use Rattle.hint_log.specs.Origins.{leaf_with_sign, leaf_clause}
 use Rattle.log_laws.specs.Circuits.{leaf_value}
 use Rattle.log_laws.proofs.Kept.{given_id}
 use Rattle.oracle.specs.Calls.{IsModelUnder, IsLearnedEntry}
+use Rattle.oracle.specs.declared.groups.Group.{Group}
 use Rattle.circuit_cnf.specs.declared.gates.Gates.{Gates}
 use Rattle.circuit_cnf.specs.Faults.{AreGiven, HasFault, IsFaulted}
-use Rattle.circuit_cnf.specs.Gates.{HasGateClauses, AreKnown}
+use Rattle.circuit_cnf.specs.Gates.{HasClauses, AreKnown, groups_of}
 use Rattle.circuit_cnf.specs.Turning.{NamesAreKept, AreFailing}
 
 -- the selectors that were assumed are true
-pub switched_on : (values : Assignment) (live : LiveClauses) (g h : Literal) → is_negative g ≡ false →
-    is_negative h ≡ false → IsModelUnder values live (g ∷ h ∷ []) →
-    (values (variable_of g) ≡ true) × (values (variable_of h) ≡ true)
-switched_on values live g h g_plain h_plain m = search arith
+pub switched_on : (values : Assignment) (live : LiveClauses) (gs : List Group) →
+    IsModelUnder values live (map (λ g. g.selector) gs) → (g : Group) → Contains gs g →
+    is_negative g.selector ≡ false → values (variable_of g.selector) ≡ true
+switched_on values live gs m g inside plain =
+    let true_there : literal_true values g.selector ≡ true =
+    All-contains (λ l. literal_true values l ≡ true) (map (λ h. h.selector) gs) g.selector m.assumptions_true
+    (contains_map (λ (h : Group). h.selector) gs g inside) in
+    sym (ap (literal_true values) (as_positive g.selector plain)) ∙ true_there
 
 -- a group's clause is true by its rest where the group is on
 rest_true : (values : Assignment) (group : ℕ) (rest : List Literal) → values group ≡ true →
@@ -82,8 +89,8 @@ leaf_constant values (LeafLiteral l) h = cc
 
 pub are_failing : (f : Dqbf) (gates : Gates) (leaf : ℕ → Leaf) (sel : ℕ) (values : Assignment) (old : List Entry)
     (log new : ProofLog) → Grew IsLearnedEntry log new → MakesTrue values (clause_at new.entries) →
-    values (variable_of gates.group.selector) ≡ true → values sel ≡ true → AreKnown gates log.entries →
-    gates.unfinished ≡ None → NamesAreKept old log.entries → AreGiven f sel leaf log.entries →
+    ((g : Group) → Contains (groups_of gates) g → values (variable_of g.selector) ≡ true) → values sel ≡ true →
+    AreKnown gates log.entries → gates.unfinished ≡ None → NamesAreKept old log.entries → AreGiven f sel leaf log.entries →
     AreFailing f leaf old values
 are_failing f gates leaf sel values old log new learned model gates_on sel_on known ready names given = record {
   gates = λ v a b is. gate v a b (names v (And a b) is);
@@ -104,18 +111,19 @@ are_failing f gates leaf sel values old log new learned model gates_on sel_on kn
     | inl found ↦ by_clauses (known.clauses a b v found)
     | inr last ↦ (let clash : None ≡ Some last.0 = sym ready ∙ last.1 in cc)
   ] where
-    by_clauses : HasGateClauses log.entries (variable_of gates.group.selector) v a b 3 →
+    by_clauses : HasClauses log.entries (groups_of gates) v a b →
         values v ≡ (literal_true values a && literal_true values b)
-    by_clauses have =
-        let g = variable_of gates.group.selector in
-        let one = rest_true values g (negative v ∷ a ∷ []) gates_on
+    by_clauses (group, among, have) =
+        let g = variable_of group.selector in
+        let on = gates_on group among in
+        let one = rest_true values g (negative v ∷ a ∷ []) on
         (true_there (Gate v 1) (negative g ∷ negative v ∷ a ∷ [])
         (have 1 (negative v ∷ a ∷ []) (omega arith) refl)) in
-        let two = rest_true values g (negative v ∷ b ∷ []) gates_on
+        let two = rest_true values g (negative v ∷ b ∷ []) on
         (true_there (Gate v 2) (negative g ∷ negative v ∷ b ∷ [])
         (have 2 (negative v ∷ b ∷ []) (omega arith) refl)) in
         let three : (values v || (literal_true values (opposite a) || (literal_true values (opposite b) || false)))
-        ≡ true = rest_true values g (positive v ∷ opposite a ∷ opposite b ∷ []) gates_on
+        ≡ true = rest_true values g (positive v ∷ opposite a ∷ opposite b ∷ []) on
         (true_there (Gate v 3) (negative g ∷ positive v ∷ opposite a ∷ opposite b ∷ [])
         (have 3 (positive v ∷ opposite a ∷ opposite b ∷ []) (omega arith) refl)) in
         gate_bit (values v) (literal_true values a) (literal_true values b) one two

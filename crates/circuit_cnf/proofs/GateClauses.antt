@@ -6,6 +6,7 @@ use Rattle.hint_log.specs.Entries.{Given}
 use Rattle.hint_log.specs.declared.origins.Origin.TheVariants.{Gate}
 use Rattle.hint_log.specs.Entries.{ProofLog, with_entry, name_of}
 use Rattle.hint_log.specs.ProductiveLog.{fault_groups, fault_room}
+use Rattle.list_laws.proofs.Members.{contains_first}
 use Rattle.log_laws.specs.Engines.{circuits, IsAddedBy}
 use Rattle.log_laws.proofs.LargerLogs.{grown_by, grown_then}
 use Rattle.circuit_cnf.specs.declared.gates.Gates.{Gates}
@@ -19,6 +20,7 @@ pub record PartsSoFar (first : Gates) (old : ProofLog) (gate : Unfinished) (gate
     (parts : ℕ) : Type 0 where
   pub grew : GrewByGates (variable_of first.group.selector) old log
   pub group : gates.group ≡ first.group
+  pub earlier : gates.earlier ≡ first.earlier
   pub names : (v : ℕ) → name_of log.entries v ≡ name_of old.entries v
   pub faults : fault_groups log.entries ≡ fault_groups old.entries
   pub few : length (fault_groups log.entries) ≤ fault_room log.entries
@@ -39,6 +41,7 @@ part_given first old gate gates log new parts before below given =
           (gate_added h start log.entries group gate.variable (parts + 1) gate.left gate.right given.rest ready
           given.rest_is)));
       group = before.group;
+      earlier = before.earlier;
       names = before.names;
       faults = before.faults;
       few = before.few;
@@ -59,7 +62,7 @@ part_given first old gate gates log new parts before below given =
 
       ready : CanGiveGateFrom (variable_of gates.group.selector) gate.variable gate.left gate.right (parts + 1) log.entries
       ready = record {
-        is_group = before.known.made.named;
+        is_group = (before.known.made gates.group (contains_first gates.group gates.earlier.items)).named;
         is_gate = here.named;
         fresh = λ i c most inside. here.missing i c (omega (arith, most)) inside;
         few = before.few;

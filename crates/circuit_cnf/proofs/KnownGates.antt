@@ -12,7 +12,7 @@ use Rattle.dq_lits.specs.Literal.{Literal, negative, variable_of, literal_code}
 use Rattle.hint_log.specs.Entries.{Entry}
 use Rattle.hint_log.specs.Entries.{Named, Given, Learned, Answer, Round, Begun}
 use Rattle.hint_log.specs.declared.names.Name.{Name}
-use Rattle.hint_log.specs.declared.names.Name.TheVariants.{And, Bad}
+use Rattle.hint_log.specs.declared.names.Name.TheVariants.{And, Bad, Selector}
 use Rattle.hint_log.specs.declared.origins.Origin.TheVariants.{Gate}
 use Rattle.hint_log.specs.Conditions.{AreLogged}
 use Rattle.hint_log.specs.Entries.{name_of}
@@ -23,7 +23,7 @@ use Rattle.hint_log.specs.Origins.{gate_rest}
 use Rattle.log_laws.proofs.Kept.{NamesStay, name_stays_by, name_cases, some_stays}
 use Rattle.circuit_cnf.specs.declared.gates.Gates.{Gates}
 use Rattle.circuit_cnf.specs.declared.gates.Unfinished.{Unfinished}
-use Rattle.circuit_cnf.specs.Gates.{pair_cmp, HasGateClauses, IsGateClause, IsGateGiven, IsUnfinished, AreKnown}
+use Rattle.circuit_cnf.specs.Gates.{pair_cmp, groups_of, HasClauses, HasGateClauses, IsGateClause, IsGateGiven, IsUnfinished, AreKnown}
 
 not_some : (o : Option Name) → o ≡ None → IsSome o → ⊥
 not_some None none some = absurd (false≢true some)
@@ -52,23 +52,36 @@ clauses_stay : (old new : List Entry) → ((x : Entry) → Contains old x → Co
     HasGateClauses new group v a b parts
 clauses_stay old new more group v a b parts have i rest most is = search arith
 
+have_stay : (old new : List Entry) → ((x : Entry) → Contains old x → Contains new x) → (groups : List Group) (v : ℕ)
+    (a b : Literal) → HasClauses old groups v a b → HasClauses new groups v a b
+have_stay old new more groups v a b have = (
+  have.0,
+  have.1,
+  clauses_stay old new more (variable_of have.0.selector) v a b 3 have.2,
+)
+
+made_stay : (old new : List Entry) → NamesStay old new → (g : Group) → IsMade old g → IsMade new g
+made_stay old new stay g made = record {
+  positive = made.positive;
+  named = stay (variable_of g.selector) (Selector (variable_of g.selector)) made.named;
+}
+
 -- a gate's name more
 pub named_more : (gates : Gates) (es : List Entry) (v : ℕ) (a b : Literal) → AreKnown gates es →
     gates.unfinished ≡ None → name_of es v ≡ None →
     get pair_cmp gates.variables (literal_code a, literal_code b) ≡ None →
     AreKnown (record gates { unfinished = Some (unfinished_gate v a b 0) }) (Named v (And a b) ∷ es)
 named_more gates es v a b before ready unnamed none = record {
-  made = search arith;
+  made = λ h inside. made_stay es (Named v (And a b) ∷ es) stay h (before.made h inside);
   known = λ c d w is. elim (name_cases es v w (And a b) (And c d) is) [
     | inl here ↦ inr (unfinished_gate v a b 0, refl, sym here.0)
     | inr old ↦ search arith
   ];
   sound = λ c d w found. stay w (And c d) (before.sound c d w found);
-  clauses = λ c d w found. clauses_stay es (Named v (And a b) ∷ es) more (variable_of gates.group.selector) w c d 3
-      (before.clauses c d w found);
+  clauses = λ c d w found. have_stay es (Named v (And a b) ∷ es) more (groups_of gates) w c d (before.clauses c d w found);
   origins = λ w i c inside. elim (contains_cases (Named v (And a b)) (Given (Gate w i) c) es inside)
       [ inl is ↦ cc | inr old ↦ some_stays es (Named v (And a b) ∷ es) stay w (before.origins w i c old) ];
-  own = (tt, before.own);
+  own = λ h inside. (tt, before.own h inside);
   last = λ gate is. let same : unfinished_gate v a b 0 ≡ gate = cc in
       subst (IsUnfinished (record gates { unfinished = Some (unfinished_gate v a b 0) }) (Named v (And a b) ∷ es)) same
       (record {
@@ -90,7 +103,9 @@ gate_clause : (gates : Gates) (es : List Entry) (gate : Unfinished) (part : ℕ)
     AreKnown gates es → name_of es gate.variable ≡ Some (And gate.left gate.right) →
     gate_rest gate.variable gate.left gate.right part ≡ Some rest →
     IsGateClause es (Gate gate.variable part) (negative (variable_of gates.group.selector) ∷ rest)
-gate_clause gates es gate part rest before named is f = search arith
+gate_clause gates es gate part rest before named is f =
+    let made = before.made gates.group (contains_first gates.group gates.earlier.items) in
+    search arith
 
 abbrev with_parts : Gates → Unfinished → ℕ → Gates
 with_parts gates gate parts = record gates { unfinished = Some (record gate { parts = parts }) }
@@ -102,16 +117,16 @@ pub part_more : (gates : Gates) (es : List Entry) (gate : Unfinished) (parts : �
     AreKnown (with_parts gates gate (parts + 1)) (Given (Gate gate.variable (parts + 1))
     (negative (variable_of gates.group.selector) ∷ rest) ∷ es)
 part_more gates es gate parts rest before is_last below rest_is = record {
-  made = record { positive = before.made.positive; named = before.made.named };
+  made = λ h inside. record { positive = (before.made h inside).positive; named = (before.made h inside).named };
   known = search arith;
   sound = before.sound;
-  clauses = λ c d w found. clauses_stay es (e ∷ es) more group w c d 3 (before.clauses c d w found);
+  clauses = λ c d w found. have_stay es (e ∷ es) more (groups_of gates) w c d (before.clauses c d w found);
   origins = λ w i c inside. elim (contains_cases e (Given (Gate w i) c) es inside) [
     | inl is ↦ (let same : gate.variable ≡ w = cc in subst (λ x. IsSome (name_of es x)) same
         (subst IsSome (sym here.named) refl))
     | inr old ↦ before.origins w i c old
   ];
-  own = ((λ inside. gate_clause gates es gate (parts + 1) rest before here.named rest_is), before.own);
+  own = λ h inside. ((λ there. gate_clause gates es gate (parts + 1) rest before here.named rest_is), before.own h inside);
   last = λ u is. let same : record gate { parts = parts + 1 } ≡ u = cc in
       subst (IsUnfinished (with_parts gates gate (parts + 1)) (e ∷ es)) same (record {
         named = here.named;
@@ -150,12 +165,12 @@ part_more gates es gate parts rest before is_last below rest_is = record {
 
 -- it is known by its sides
 pub finished : (gates : Gates) (new : Gates) (es : List Entry) (gate : Unfinished) → AreKnown gates es →
-    gates.unfinished ≡ Some gate → gate.parts ≡ 3 → new.group ≡ gates.group → new.unfinished ≡ None →
+    gates.unfinished ≡ Some gate → gate.parts ≡ 3 → groups_of new ≡ groups_of gates → new.unfinished ≡ None →
     ((q : ℕ × ℕ) → get pair_cmp new.variables q ≡ cond (is_eq
     (pair_cmp (literal_code gate.left, literal_code gate.right) q)) (Some gate.variable)
     (get pair_cmp gates.variables q)) → AreKnown new es
-finished gates new es gate before is_last all group_same ready updates = record {
-  made = subst (IsMade es) (sym group_same) before.made;
+finished gates new es gate before is_last all groups_same ready updates = record {
+  made = subst (λ gs. (h : Group) → Contains gs h → IsMade es h) (sym groups_same) before.made;
   known = λ c d w is. elim (before.known c d w is) [
     | inl found ↦ inl (old_found c d w found (is_eq (pair_cmp key (literal_code c, literal_code d))) refl)
     | inr last ↦ (let both : Some gate ≡ Some last.0 = sym is_last ∙ last.1 in let same : gate ≡ last.0 = cc in
@@ -172,17 +187,21 @@ finished gates new es gate before is_last all group_same ready updates = record 
         (subst (λ x. name_of es x ≡ Some (And gate.left gate.right)) now.0 names)))
     | inr old ↦ before.sound c d w old
   ];
-  clauses = λ c d w found. subst (λ (g : Group). HasGateClauses es (variable_of g.selector) w c d 3) (sym group_same)
+  clauses = λ c d w found. subst (λ gs. HasClauses es gs w c d) (sym groups_same)
       (elim (cases_found c d w found) [
         | inl now ↦ (let given = subst (HasGateClauses es (variable_of gates.group.selector) gate.variable gate.left
-            gate.right) all here.given in
-            subst (λ x. HasGateClauses es (variable_of gates.group.selector) w x d 3) now.1
-            (subst (λ x. HasGateClauses es (variable_of gates.group.selector) w gate.left x 3) now.2
-            (subst (λ x. HasGateClauses es (variable_of gates.group.selector) x gate.left gate.right 3) now.0 given)))
+            gate.right) all here.given in (
+              gates.group,
+              contains_first gates.group gates.earlier.items,
+              subst (λ x. HasGateClauses es (variable_of gates.group.selector) w x d 3) now.1
+                  (subst (λ x. HasGateClauses es (variable_of gates.group.selector) w gate.left x 3) now.2
+                  (subst (λ x. HasGateClauses es (variable_of gates.group.selector) x gate.left gate.right 3) now.0 given)),
+            ))
         | inr old ↦ before.clauses c d w old
       ]);
   origins = before.origins;
-  own = subst (λ (g : Group). Each (IsGateGiven (variable_of g.selector)) es) (sym group_same) before.own;
+  own = subst (λ gs. (h : Group) → Contains gs h → Each (IsGateGiven (variable_of h.selector)) es) (sym groups_same)
+      before.own;
   last = λ u is. let none : None ≡ Some u = sym ready ∙ is in cc;
 } where
   key : ℕ × ℕ
@@ -236,22 +255,21 @@ pub record LeavesGates (gates : Gates) (old new : List Entry) : Type 0 where
   pub more : (x : Entry) → Contains old x → Contains new x
   pub origins : (v i : ℕ) (c : List Literal) → Contains new (Given (Gate v i) c) →
       Contains old (Given (Gate v i) c) ⊎ IsSome (name_of new v)
-  pub own : Each (IsGateGiven (variable_of gates.group.selector)) old →
-      Each (IsGateGiven (variable_of gates.group.selector)) new
+  pub own : (h : Group) → Contains (groups_of gates) h → Each (IsGateGiven (variable_of h.selector)) old →
+      Each (IsGateGiven (variable_of h.selector)) new
   pub missing : (gate : Unfinished) → gates.unfinished ≡ Some gate → (i : ℕ) (c : List Literal) →
       Contains new (Given (Gate gate.variable i) c) → Contains old (Given (Gate gate.variable i) c)
 
 pub known_stay : (gates : Gates) (old new : List Entry) → LeavesGates gates old new → AreKnown gates old →
     AreKnown gates new
 known_stay gates old new leaves before = record {
-  made = search arith;
+  made = λ h inside. made_stay old new leaves.stay h (before.made h inside);
   known = λ a b v is. before.known a b v (leaves.ands v a b is);
   sound = λ a b v found. leaves.stay v (And a b) (before.sound a b v found);
-  clauses = λ a b v found. clauses_stay old new leaves.more (variable_of gates.group.selector) v a b 3
-      (before.clauses a b v found);
+  clauses = λ a b v found. have_stay old new leaves.more (groups_of gates) v a b (before.clauses a b v found);
   origins = λ v i c inside. elim (leaves.origins v i c inside)
       [ inl was ↦ some_stays old new leaves.stay v (before.origins v i c was) | inr some ↦ some ];
-  own = leaves.own before.own;
+  own = λ h inside. leaves.own h inside (before.own h inside);
   last = λ gate is. let h = before.last gate is in record {
     named = leaves.stay gate.variable (And gate.left gate.right) h.named;
     few = h.few;

@@ -18,6 +18,7 @@ mod SaidFaults
 mod NamedGroups
 mod PrefixPlaces
 mod UnchangedCheckers
+mod NewGroups
 mod TurnGrowth
 mod HeldGroups
 mod FalseClauses
@@ -26,5 +27,7 @@ mod LongerRows
 mod OutputValues
 mod TurnParts
 mod TurnStages
+mod ActiveGroups
+mod Preparation
 mod LeafValues
 mod TurnAnswers

@@ -17,6 +17,7 @@ use Rattle.hint_log.specs.declared.names.Name.TheVariants.{Selector, Input, And,
 use Rattle.hint_log.specs.declared.origins.Origin.TheVariants.{Gate}
 use Rattle.hint_log.specs.Entries.{ProofLog, with_entry, name_of}
 use Rattle.hint_log.specs.Growth.{Each, Grew}
+use Rattle.oracle.specs.declared.groups.Group.{Group}
 use Rattle.oracle.specs.Searched.{IsGivenToGroup}
 use Rattle.hint_log.specs.Naming.{NamedLiteral, named_literal, name_literal}
 use Rattle.hint_log.proofs.NamedEntries.{named_contains}
@@ -26,7 +27,7 @@ use Rattle.log_laws.proofs.Kept.{named_stay, name_stays_by, name_cases}
 use Rattle.oracle.specs.Calls.{IsMade}
 use Rattle.circuit_cnf.specs.declared.checkers.Checker.{Checker}
 use Rattle.circuit_cnf.specs.Checking.{AreInputs, IsChecker}
-use Rattle.circuit_cnf.specs.Gates.{pair_cmp, IsGateGiven, AreKnown}
+use Rattle.circuit_cnf.specs.Gates.{pair_cmp, IsGateGiven, AreKnown, groups_of}
 use Rattle.circuit_cnf.proofs.EmptyGroups.{no_gates_given}
 use Rattle.circuit_cnf.specs.Inputs.{HasNoGates, AreInputsOf}
 use Rattle.list_laws.proofs.Sequences.{take_past}
@@ -147,9 +148,9 @@ pub new_checker : (f : Dqbf) (log new : ProofLog) (checker : Checker) → HasNoG
     name_of log.entries (variable_of checker.gates.group.selector) ≡ None →
     new ≡ with_entry log (Named (variable_of checker.gates.group.selector)
     (Selector (variable_of checker.gates.group.selector))) →
-    checker.gates.variables.entries ≡ [] → checker.gates.unfinished ≡ None →
+    checker.gates.variables.entries ≡ [] → checker.gates.earlier.items ≡ [] → checker.gates.unfinished ≡ None →
     Each IsGivenToGroup log.entries → IsChecker f checker new.entries
-new_checker f log new checker none inputs made unnamed is empty ready grouped =
+new_checker f log new checker none inputs made unnamed is empty alone ready grouped =
     record { gates = gates; inputs = kept; bads = bads } where
       entries_are : new.entries ≡ Named (variable_of checker.gates.group.selector)
           (Selector (variable_of checker.gates.group.selector)) ∷ log.entries
@@ -176,9 +177,16 @@ new_checker f log new checker none inputs made unnamed is empty ready grouped =
       not_found : (p : ℕ × ℕ) (v : ℕ) → get pair_cmp checker.gates.variables p ≡ Some v → ⊥
       not_found p v found = let nothing : None ≡ Some v = ap (lookup (is_at (pair_cmp p))) (sym empty) ∙ found in cc
 
+      only : (h : Group) → Contains (groups_of checker.gates) h → checker.gates.group ≡ h
+      only h inside = elim (contains_cases checker.gates.group h [] (subst
+          (λ gs. Contains (checker.gates.group ∷ gs) h) alone inside)) [
+            | inl is ↦ is
+            | inr (k, below, is) ↦ absurd (omega (arith, below))
+          ]
+
       gates : AreKnown checker.gates new.entries
       gates = record {
-        made = made;
+        made = λ h inside. subst (IsMade new.entries) (only h inside) made;
         known = λ a b v named. absurd (no_name v a b named);
         sound = λ a b v found. absurd (not_found (literal_code a, literal_code b) v found);
         clauses = λ a b v found. absurd (not_found (literal_code a, literal_code b) v found);
@@ -188,8 +196,9 @@ new_checker f log new checker none inputs made unnamed is empty ready grouped =
               | inl same ↦ cc
               | inr old' ↦ absurd (none.not_given v i c old')
             ];
-        own = subst (Each (IsGateGiven (variable_of checker.gates.group.selector))) (sym entries_are)
-            (tt, no_gates_given (variable_of checker.gates.group.selector) log.entries unnamed grouped);
+        own = λ h inside. subst (λ (x : Group). Each (IsGateGiven (variable_of x.selector)) new.entries) (only h inside)
+            (subst (Each (IsGateGiven (variable_of checker.gates.group.selector))) (sym entries_are)
+            (tt, no_gates_given (variable_of checker.gates.group.selector) log.entries unnamed grouped));
         last = λ gate is. let clash : None ≡ Some gate = sym ready ∙ is in cc;
       }
 

@@ -13,7 +13,7 @@ use Rattle.aig_graph.specs.Marking.{IsInCone, root, left, right}
 use Rattle.hint_log.specs.Entries.{Entry}
 use Rattle.hint_log.specs.declared.names.Name.TheVariants.{Input as InputName}
 use Rattle.hint_log.specs.declared.origins.Leaf.{Leaf}
-use Rattle.hint_log.specs.Entries.{ProofLog, name_of}
+use Rattle.hint_log.specs.Entries.{ProofLog}
 use Rattle.hint_log.specs.Naming.{named_literal}
 use Rattle.hint_log.specs.ProductiveLog.{fault_groups, fault_room}
 use Rattle.log_laws.specs.Engines.{circuits, LeavesRest}
@@ -21,7 +21,6 @@ use Rattle.log_laws.proofs.Found.{numbered_among}
 use Rattle.log_laws.proofs.LargerLogs.{leaves_rest}
 use Rattle.log_laws.proofs.Kept.{named_stay, some_stays}
 use Rattle.circuit_cnf.specs.declared.checkers.Checker.{Checker}
-use Rattle.circuit_cnf.specs.declared.gates.Gates.{Gates}
 use Rattle.circuit_cnf.specs.Checking.{AreInputs, IsChecker}
 use Rattle.circuit_cnf.specs.Gates.{AreKnown, AreBadsStill, GrewByGates}
 use Rattle.circuit_cnf.specs.Leaves.{HasLeaf, AreClosed, AreMarkedUniversals, HaveLeaves, leaf_by}
@@ -42,20 +41,18 @@ pub few_by_gates : (group : ℕ) (old new : ProofLog) → GrewByGates group old 
     length (fault_groups new.entries) ≤ fault_room new.entries
 few_by_gates group old new grew faults few = let same = few_same group old new grew faults few in omega (arith, same)
 
-pub cone_checker : (f : Dqbf) (checker : Checker) (gates : Gates) (group : ℕ) (old log new : ProofLog) →
-    IsChecker f checker old.entries → ((v : ℕ) → name_of log.entries v ≡ name_of old.entries v) →
-    GrewByGates group log new →
-    AreBadsStill log.entries new.entries → AreKnown gates new.entries →
-    IsChecker f (record checker { gates = gates }) new.entries
-cone_checker f checker gates group old log new before names grew bads known = record {
+pub cone_checker : (f : Dqbf) (checker after : Checker) (group : ℕ) (old new : ProofLog) →
+    IsChecker f checker old.entries → after.inputs ≡ checker.inputs → GrewByGates group old new →
+    AreBadsStill old.entries new.entries → AreKnown after.gates new.entries → IsChecker f after new.entries
+cone_checker f checker after group old new before same grew bads known = record {
   gates = known;
-  inputs = named_stay old.entries new.entries (λ v n is. rest.names v n (names v ∙ is)) checker.inputs.items
-      (map (λ x. named_literal (InputName x) false) f.universals) before.inputs;
-  bads = λ v g j is. some_stays old.entries new.entries (λ w n at. rest.names w n (names w ∙ at)) g
-      (before.bads v g j (sym (names v) ∙ bads v g j is));
+  inputs = named_stay old.entries new.entries rest.names after.inputs.items
+      (map (λ x. named_literal (InputName x) false) f.universals)
+      (subst (λ xs. AreInputs f.universals xs.items old.entries) (sym same) before.inputs);
+  bads = λ v g j is. some_stays old.entries new.entries rest.names g (before.bads v g j (bads v g j is));
 } where
-  rest : LeavesRest f circuits group true log.entries new.entries
-  rest = leaves_rest f circuits group true log new (grew f log.entries)
+  rest : LeavesRest f circuits group true old.entries new.entries
+  rest = leaves_rest f circuits group true old new (grew f old.entries)
 
 pub cones_are_closed : (graph : AigGraph) (nodes : List Node) (marks : List Bool) →
     ((p : ℕ) → ((bit_of marks p ≡ true) ↔ IsInCone graph nodes p)) → AreClosed graph marks

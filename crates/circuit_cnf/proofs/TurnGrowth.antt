@@ -10,8 +10,8 @@ use Rattle.hint_log.specs.declared.origins.Leaf.TheVariants.{Constant}
 use Rattle.hint_log.specs.Entries.{ProofLog, with_entry, name_of}
 use Rattle.hint_log.specs.Growth.{EachOf, Grew}
 use Rattle.hint_log.specs.ProductiveLog.{fault_groups, fault_room}
-use Rattle.log_laws.specs.Engines.{Engine, circuits, IsAddedBy, IsNamedBy}
-use Rattle.log_laws.proofs.LargerLogs.{leaves_rest, grown_by, grown_then}
+use Rattle.log_laws.specs.Engines.{Engine, IsAddedBy, IsNamedBy}
+use Rattle.log_laws.proofs.LargerLogs.{grown_by}
 use Rattle.log_laws.proofs.Kept.{NamesStay, each_of_weaker, unnamed_earlier}
 use Rattle.oracle.specs.Calls.{IsLearnedEntry, IsRefutedUnder}
 use Rattle.circuit_cnf.specs.Faults.{AreFewWith}
@@ -62,13 +62,6 @@ module _ (f : Dqbf) (engine : Engine) (group : ℕ) (silent : Bool) (start : Lis
       record { unnamed = unnamed; own = inl refl; rightly = tt } in
       grown_by (IsAddedBy f engine group silent start) old new (Named sel (Selector sel)) is named
 
-pub unnamed_before_gates : (f : Dqbf) (group : ℕ) (old log : ProofLog) →
-    ((h : Dqbf) (start : List Entry) → Grew (IsAddedBy h circuits group true start) old log) → (v : ℕ) →
-    name_of log.entries v ≡ None
-    → name_of old.entries v ≡ None
-unnamed_before_gates f group old log gates = unnamed_earlier old.entries log.entries
-    (leaves_rest f circuits group true old log (gates f old.entries)).names
-
 -- what goes into a group made since a later log goes into one made since an earlier log
 module _ (f : Dqbf) (engine : Engine) (group : ℕ) (silent : Bool) (first start : List Entry)
     (stay : NamesStay first start) where
@@ -89,17 +82,25 @@ module _ (f : Dqbf) (engine : Engine) (group : ℕ) (silent : Bool) (first start
       Grew (IsAddedBy f engine group silent first) old new
   grew_since old new g = search (arith, each_of_weaker, earlier_start)
 
--- a turn's growth: gates, and then what the search adds
-pub turn_grew : (f : Dqbf) (group other : ℕ) (silent : Bool) (old log new : ProofLog) →
-    ((h : Dqbf) (start : List Entry) → Grew (IsAddedBy h circuits group true start) old log) → other ≡ group →
-    Grew (IsAddedBy f circuits other silent log.entries) log new →
-    Grew (IsAddedBy f circuits group silent old.entries) old new
-turn_grew f group other silent old log new gates same searched =
-    let stay = (leaves_rest f circuits group true old log (gates f old.entries)).names in
-    grown_then (IsAddedBy f circuits group silent old.entries) old log new
-    (any_silence f circuits group silent old.entries old log (gates f old.entries))
-    (grew_since f circuits group silent old.entries log.entries stay log new
-    (subst (λ g. Grew (IsAddedBy f circuits g silent log.entries) log new) same searched))
+-- what goes into a group that was made since goes beside another standing group
+module _ (f : Dqbf) (engine : Engine) (group standing : ℕ) (silent : Bool) (start : List Entry)
+    (new : (group ≡ standing) ⊎ (name_of start group ≡ None)) where
+  beside : (g : ℕ) → (g ≡ group) ⊎ (name_of start g ≡ None) → (g ≡ standing) ⊎ (name_of start g ≡ None)
+  beside g (inl is) = subst (λ n. (n ≡ standing) ⊎ (name_of start n ≡ None)) (sym is) new
+  beside g (inr unnamed) = inr unnamed
+
+  other_entry : (earlier : List Entry) (e : Entry) → IsAddedBy f engine group silent start earlier e →
+      IsAddedBy f engine standing silent start earlier e
+  other_entry earlier (Named v n) h = h
+  other_entry earlier (Given origin c) h = search (arith, beside)
+  other_entry earlier (Learned c hints) h = h
+  other_entry earlier (Answer c hints) h = h
+  other_entry earlier (Round row values j) h = h
+  other_entry earlier (Begun live) h = h
+
+  pub other_standing : (old log : ProofLog) → Grew (IsAddedBy f engine group silent start) old log →
+      Grew (IsAddedBy f engine standing silent start) old log
+  other_standing old log g = search (arith, each_of_weaker, other_entry)
 
 -- faults stay as they were
 pub learned_faults : (more old : List Entry) → EachOf IsLearnedEntry more old →

@@ -119,6 +119,19 @@ module _ (checker : Checker) (s : Faults) (bads : List Literal) (chosen : ℕ �
       AreChosenGiven s.f.now (selector_in s) (leaf_in s) bads more new.entries → IsSaying checker s bads more old new
   saying_more more new said given = search (arith, (saying_on new said))
 
+-- of fewer clauses too
+pub saying_fewer : (checker : Checker) (s : Faults) (bads : List Literal) (chosen more : ℕ → Bool) (old log : ProofLog) →
+    ((j : ℕ) → chosen j ≡ true → more j ≡ true) → IsSaying checker s bads more old log →
+    IsSaying checker s bads chosen old log
+saying_fewer checker s bads chosen more old log fewer w = record {
+  first = w.first;
+  group_made = w.group_made;
+  said = w.said;
+  may = w.may;
+  named = w.named;
+  given = λ j below is. w.given j below (fewer j is);
+}
+
 -- a search that learns says nothing
 pub learned_said : (s : Faults) (log new : ProofLog) → MaySay s log.entries → Grew IsLearnedEntry log new →
     AreSaid s.f.now (selector_in s) (leaf_in s) log new

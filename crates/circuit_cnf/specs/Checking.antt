@@ -1,5 +1,6 @@
 -- How a checker of circuits stands in the log.
-use Rattle.std.specs.Prelude.{◌≡◌, ◌≢◌, ℕ, Bool, false, List, ◌∷◌, map, Some, IsSome}
+use Rattle.std.specs.Prelude.{◌≡◌, ◌≢◌, ℕ, Bool, false, List, ◌∷◌, map, None, Some, IsSome}
+use Rattle.std.specs.List.{Contains}
 use Rattle.dq_lits.specs.Literal.{Literal, variable_of}
 use Rattle.dq_lits.specs.Formula.{Dqbf}
 use Rattle.hint_log.specs.Entries.{Entry}
@@ -9,7 +10,8 @@ use Rattle.hint_log.specs.Entries.{ProofLog, name_of}
 use Rattle.hint_log.specs.Growth.{Grew}
 use Rattle.log_laws.specs.Engines.{Engine, circuits, same_engine, IsAddedBy}
 use Rattle.hint_log.specs.Naming.{named_literal, AreNamedAs}
-use Rattle.circuit_cnf.specs.Gates.{AreKnown}
+use Rattle.oracle.specs.declared.groups.Group.{Group}
+use Rattle.circuit_cnf.specs.Gates.{AreKnown, groups_of}
 use Rattle.circuit_cnf.specs.declared.checkers.Checker.{Checker}
 
 -- a positive literal for each universal, on the variable that is named for it
@@ -17,11 +19,19 @@ abbrev pub AreInputs : List ℕ → List Literal → List Entry → Type 0
 AreInputs universals inputs entries =
     AreNamedAs entries inputs (map (λ x. named_literal (Input x) false) universals)
 
--- the group of the gates
+-- the group that gates go to, and the groups that were made for gates so far
 abbrev pub group_of : Checker → ℕ
 group_of checker = variable_of checker.gates.group.selector
 
--- the gates' group and names are known, every universal has its input, and what says that a clause
+abbrev pub gate_groups : Checker → List Group
+gate_groups checker = groups_of checker.gates
+
+-- none of the groups was there
+abbrev pub AreNewGroups : List Group → List Entry → Type 0
+AreNewGroups groups entries =
+    (g : Group) → Contains groups g → name_of entries (variable_of g.selector) ≡ None
+
+-- the gates' groups and names are known, every universal has its input, and what says that a clause
 -- is false says it of a group that was made
 pub record IsChecker (f : Dqbf) (checker : Checker) (entries : List Entry) : Type 0 where
   pub gates : AreKnown checker.gates entries
@@ -33,7 +43,8 @@ pub record IsChecker (f : Dqbf) (checker : Checker) (entries : List Entry) : Typ
 abbrev pub CheckersStay : Type 0
 CheckersStay =
     (f : Dqbf) (checker : Checker) (engine : Engine) (group : ℕ) (silent : Bool)
-    (old new : ProofLog) → same_engine circuits engine ≡ false → group_of checker ≢ group
+    (old new : ProofLog) → same_engine circuits engine ≡ false
+    → ((g : Group) → Contains (gate_groups checker) g → variable_of g.selector ≢ group)
     → Grew (IsAddedBy f engine group silent old.entries) old new → IsChecker f checker old.entries
     → IsChecker f checker new.entries
 

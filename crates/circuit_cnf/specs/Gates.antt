@@ -7,8 +7,8 @@ use Rattle.std.specs.Ordering.{nat_cmp, ordering_then}
 use Rattle.dq_lits.specs.Literal.{Literal, negative, variable_of, literal_code}
 use Rattle.dq_lits.specs.Formula.{Dqbf}
 use Rattle.hint_log.specs.Entries.{Entry}
-use Rattle.hint_log.specs.Entries.{Given}
-use Rattle.hint_log.specs.declared.names.Name.TheVariants.{And, Bad}
+use Rattle.hint_log.specs.Entries.{Named, Given}
+use Rattle.hint_log.specs.declared.names.Name.TheVariants.{And, Bad, Selector}
 use Rattle.hint_log.specs.declared.origins.Origin.{Origin}
 use Rattle.hint_log.specs.declared.origins.Origin.TheVariants.{Gate}
 use Rattle.hint_log.specs.Entries.{ProofLog, with_entry, name_of}
@@ -16,6 +16,7 @@ use Rattle.hint_log.specs.Growth.{Each, Grew}
 use Rattle.hint_log.specs.Origins.{gate_rest, IsOriginsClause}
 use Rattle.log_laws.specs.Engines.{circuits, IsInGroup, IsAddedBy}
 use Rattle.oracle.specs.Calls.{IsMade}
+use Rattle.oracle.specs.declared.groups.Group.{Group}
 use Rattle.circuit_cnf.specs.declared.gates.Gates.{Gates}
 use Rattle.circuit_cnf.specs.declared.gates.Unfinished.{Unfinished}
 
@@ -32,6 +33,16 @@ HasGateClauses entries group v a b parts =
 abbrev pub IsGateClause : List Entry → Origin → List Literal → Type 0
 IsGateClause earlier (Gate v i) clause = (f : Dqbf) → IsOriginsClause f earlier (Gate v i) clause
 IsGateClause earlier _ clause = ⊥
+
+-- the groups that were made for gates
+abbrev pub groups_of : Gates → List Group
+groups_of gates = gates.group ∷ gates.earlier.items
+
+-- a gate has all its clauses in one of the groups
+abbrev pub HasClauses : List Entry → List Group → ℕ → Literal → Literal → Type 0
+HasClauses entries groups v a b =
+    (group : Group) × Contains groups group
+    × HasGateClauses entries (variable_of group.selector) v a b 3
 
 -- each given clause of the group is a gate's
 abbrev pub IsGateGiven : ℕ → List Entry → Entry → Type 0
@@ -54,9 +65,9 @@ abbrev pub IsNamedLast : Option Unfinished → ℕ → Type 0
 IsNamedLast unfinished v = (gate : Unfinished) × (unfinished ≡ Some gate) × (gate.variable ≡ v)
 
 -- what was given is known: every gate's name by its sides, but for one that may be unfinished, and
--- each of these has its clauses in the group
+-- each of these has its clauses in one of the groups, which have nothing else
 pub record AreKnown (gates : Gates) (entries : List Entry) : Type 0 where
-  pub made : IsMade entries gates.group
+  pub made : (group : Group) → Contains (groups_of gates) group → IsMade entries group
   pub known : (a b : Literal) (v : ℕ) → name_of entries v ≡ Some (And a b)
       → (get pair_cmp gates.variables (literal_code a, literal_code b) ≡ Some v)
       ⊎ IsNamedLast gates.unfinished v
@@ -65,11 +76,24 @@ pub record AreKnown (gates : Gates) (entries : List Entry) : Type 0 where
       → name_of entries v ≡ Some (And a b)
   pub clauses : (a b : Literal) (v : ℕ)
       → get pair_cmp gates.variables (literal_code a, literal_code b) ≡ Some v
-      → HasGateClauses entries (variable_of gates.group.selector) v a b 3
+      → HasClauses entries (groups_of gates) v a b
   pub origins : (v i : ℕ) (c : List Literal) → Contains entries (Given (Gate v i) c)
       → IsSome (name_of entries v)
-  pub own : Each (IsGateGiven (variable_of gates.group.selector)) entries
+  pub own : (group : Group) → Contains (groups_of gates) group
+      → Each (IsGateGiven (variable_of group.selector)) entries
   pub last : (gate : Unfinished) → gates.unfinished ≡ Some gate → IsUnfinished gates entries gate
+
+-- gates go to a new group: the log has its name more, or is as it was
+pub record HasBegunGroup (before after : Gates) (old new : ProofLog) : Type 0 where
+  pub known : AreKnown after new.entries
+  pub ready : after.unfinished ≡ None
+  pub kept : (g : Group) → Contains (groups_of before) g → Contains (groups_of after) g
+  pub fresh : (g : Group) → Contains (groups_of after) g
+      → Contains (groups_of before) g ⊎ (name_of old.entries (variable_of g.selector) ≡ None)
+  pub group : (after.group ≡ before.group)
+      ⊎ (name_of old.entries (variable_of after.group.selector) ≡ None)
+  pub log : (new ≡ old)
+      ⊎ ((v : ℕ) × (name_of old.entries v ≡ None) × (new ≡ with_entry old (Named v (Selector v))))
 
 -- the clause of a gate with this number
 pub record IsPartGiven (old new : ProofLog) (group part : ℕ) (gate : Unfinished) : Type 0 where

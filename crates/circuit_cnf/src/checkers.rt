@@ -5,7 +5,7 @@ ghost use Rattle.hint_log.specs.Growth.{Grew};
 ghost use Rattle.log_laws.specs.Engines.{circuits, IsAddedBy, HasNone};
 ghost use Rattle.hint_log.specs.Entries.{name_of};
 ghost use Rattle.hint_log.specs.ProductiveLog.{fault_groups};
-ghost use Rattle.circuit_cnf.specs.Checking.{AreInputs, IsChecker, group_of};
+ghost use Rattle.circuit_cnf.specs.Checking.{AreInputs, AreNewGroups, IsChecker, gate_groups};
 ghost use Rattle.circuit_cnf.specs.Inputs.{HasNoGates};
 
 use crate::gates::Gates;
@@ -23,6 +23,10 @@ pub struct Checker {
     pub(crate) tenant: Tenant,
     pub(crate) gates: Gates,
     pub(crate) inputs: Vec<Lit>,
+    // How many gates the earlier groups have, and which of these have gates of the last outputs: no
+    // contract speaks of it.
+    pub(crate) batched: usize,
+    pub(crate) live: Vec<bool>,
     // The number of the clause that was false at the last failure, from 1 on. No contract speaks of
     // it: it says how many faults are given first.
     pub(crate) last_false: u64,
@@ -42,7 +46,7 @@ impl Checker {
         ensures grew { (group : ℕ)
             → Grew (IsAddedBy f.now circuits group true log.old.entries) log.old log.new }
         ensures made { IfOk result (λ c. IsChecker f.now c log.new.entries) }
-        ensures fresh { IfOk result (λ c. name_of log.old.entries (group_of c) ≡ None) }
+        ensures fresh { IfOk result (λ c. AreNewGroups (gate_groups c) log.old.entries) }
         ensures faults { fault_groups log.new.entries ≡ fault_groups log.old.entries }
     {
         let inputs = name_inputs(alloc, oracle, f, log)?;
@@ -50,6 +54,7 @@ impl Checker {
         let group = oracle.group(&tenant, log)?;
         let gates = Gates {
             group,
+            earlier: Vec::new(alloc),
             variables: BTreeMap::new(alloc),
             unfinished: None,
         };
@@ -58,6 +63,8 @@ impl Checker {
             tenant,
             gates,
             inputs,
+            batched: 0,
+            live: Vec::new(alloc),
             last_false: 0,
         })
     }

@@ -11,17 +11,20 @@ ghost use Rattle.hint_log.specs.Conditions.{HasSides};
 ghost use Rattle.hint_log.specs.Entries.{name_of, rounds_of};
 ghost use Rattle.hint_log.specs.ProductiveLog.{fault_groups, fault_room};
 ghost use Rattle.oracle.specs.Calls.{IsMade};
-ghost use Rattle.circuit_cnf.specs.Gates.{AreKnown, AreBadsStill, IsPartGiven, GrewByGates};
+ghost use Rattle.circuit_cnf.specs.Gates.{AreKnown, AreBadsStill, HasBegunGroup, IsPartGiven, GrewByGates};
 
 use dq_lits::{Lit, Memory};
 use hint_log::{Log, Name, Origin};
-use oracle::{Group, Oracle};
+use oracle::{Group, Oracle, Tenant};
 use std::collections::BTreeMap;
 
 /// The gates that were given to the oracle, by their sides.
 #[derive(Drop)]
 pub(crate) struct Gates {
+    // Gates go to this group.
     pub(crate) group: Group,
+    // The groups to which earlier ones went.
+    pub(crate) earlier: Vec<Group>,
     pub(crate) variables: BTreeMap<(u64, u64), u64>,
     // The gate that was named last, where memory was refused before it had all its clauses.
     pub(crate) unfinished: Option<Unfinished>,
@@ -53,6 +56,7 @@ impl Gates {
         ensures fit { O.Fits oracle.new log.new }
         ensures grew { GrewByGates (variable_of self.old.group.selector) log.old log.new }
         ensures group { self.new.group ≡ self.old.group }
+        ensures earlier { self.new.earlier ≡ self.old.earlier }
         ensures faults { fault_groups log.new.entries ≡ fault_groups log.old.entries }
         ensures bads { AreBadsStill log.old.entries log.new.entries }
         ensures known { AreKnown self.new log.new.entries }
@@ -75,6 +79,25 @@ impl Gates {
         Ok(v)
     }
 
+    // Gates go to a new group from now on.
+    pub(crate) fn begin_group<O: Oracle>(
+        &mut self,
+        oracle: &mut O,
+        tenant: &Tenant,
+        log: &mut Log,
+    ) -> Result<(), Memory>
+        requires fit { O.Fits oracle.old log.old }
+        requires known { AreKnown self.old log.old.entries }
+        requires ready { self.old.unfinished ≡ None }
+        ensures fit { O.Fits oracle.new log.new }
+        ensures begun { HasBegunGroup self.old self.new log.old log.new }
+    {
+        let group = oracle.group(tenant, log)?;
+        self.earlier.push(self.group)?;
+        self.group = group;
+        Ok(())
+    }
+
     // Gives the clauses that are missing of the gate that was named last, if any are.
     pub(crate) fn finish<O: Oracle>(&mut self, oracle: &mut O, log: &mut Log) -> Result<(), Memory>
         requires fit { O.Fits oracle.old log.old }
@@ -83,6 +106,7 @@ impl Gates {
         ensures fit { O.Fits oracle.new log.new }
         ensures grew { GrewByGates (variable_of self.old.group.selector) log.old log.new }
         ensures group { self.new.group ≡ self.old.group }
+        ensures earlier { self.new.earlier ≡ self.old.earlier }
         ensures names { (v : ℕ) → name_of log.new.entries v ≡ name_of log.old.entries v }
         ensures faults { fault_groups log.new.entries ≡ fault_groups log.old.entries }
         ensures known { AreKnown self.new log.new.entries }
@@ -107,6 +131,7 @@ impl Gates {
         ensures fit { O.Fits oracle.new log.new }
         ensures grew { GrewByGates (variable_of self.old.group.selector) log.old log.new }
         ensures group { self.new.group ≡ self.old.group }
+        ensures earlier { self.new.earlier ≡ self.old.earlier }
         ensures names { (v : ℕ) → name_of log.new.entries v ≡ name_of log.old.entries v }
         ensures faults { fault_groups log.new.entries ≡ fault_groups log.old.entries }
         ensures known { AreKnown self.new log.new.entries }
@@ -133,6 +158,7 @@ impl Gates {
         ensures fit { O.Fits oracle.new log.new }
         ensures grew { GrewByGates (variable_of self.old.group.selector) log.old log.new }
         ensures group { self.new.group ≡ self.old.group }
+        ensures earlier { self.new.earlier ≡ self.old.earlier }
         ensures names { (v : ℕ) → name_of log.new.entries v ≡ name_of log.old.entries v }
         ensures faults { fault_groups log.new.entries ≡ fault_groups log.old.entries }
         ensures known { AreKnown self.new log.new.entries }

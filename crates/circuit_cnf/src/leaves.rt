@@ -52,6 +52,7 @@ pub(crate) fn cone_literals<O: Oracle>(
     ensures fit { O.Fits oracle.new log.new }
     ensures grew { GrewByGates (variable_of gates.old.group.selector) log.old log.new }
     ensures group { gates.new.group ≡ gates.old.group }
+    ensures earlier { gates.new.earlier ≡ gates.old.earlier }
     ensures faults { fault_groups log.new.entries ≡ fault_groups log.old.entries }
     ensures bads { AreBadsStill log.old.entries log.new.entries }
     ensures known { AreKnown gates.new log.new.entries }
@@ -91,6 +92,7 @@ fn next_literal<O: Oracle>(
     ensures fit { O.Fits oracle.new log.new }
     ensures grew { GrewByGates (variable_of gates.old.group.selector) log.old log.new }
     ensures group { gates.new.group ≡ gates.old.group }
+    ensures earlier { gates.new.earlier ≡ gates.old.earlier }
     ensures faults { fault_groups log.new.entries ≡ fault_groups log.old.entries }
     ensures bads { AreBadsStill log.old.entries log.new.entries }
     ensures known { AreKnown gates.new log.new.entries }
@@ -129,6 +131,7 @@ fn gate_literal<O: Oracle>(
     ensures fit { O.Fits oracle.new log.new }
     ensures grew { GrewByGates (variable_of gates.old.group.selector) log.old log.new }
     ensures group { gates.new.group ≡ gates.old.group }
+    ensures earlier { gates.new.earlier ≡ gates.old.earlier }
     ensures faults { fault_groups log.new.entries ≡ fault_groups log.old.entries }
     ensures bads { AreBadsStill log.old.entries log.new.entries }
     ensures known { AreKnown gates.new log.new.entries }

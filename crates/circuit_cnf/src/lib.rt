@@ -6,6 +6,7 @@ pub use checkers::Checker;
 pub use trying::{Failure, failure_at};
 pub use turns::Turn;
 
+mod batches;
 mod checkers;
 mod circuits;
 mod doubts;

@@ -9,17 +9,17 @@ ghost use Rattle.hint_log.specs.Growth.{Grew};
 ghost use Rattle.hint_log.specs.Origins.{IsLeafOf};
 ghost use Rattle.hint_log.specs.ProductiveLog.{fault_groups, fault_room};
 ghost use Rattle.log_laws.specs.Engines.{circuits, IsAddedBy};
-ghost use Rattle.oracle.specs.Limits.{IsAtLimit};
 ghost use Rattle.aig_graph.specs.Graph.{IsNode, node_value};
 ghost use Rattle.aig_graph.specs.Outputs.{outputs_of, ReadsUniversals};
-ghost use Rattle.circuit_cnf.specs.Checking.{group_of, IsChecker};
+ghost use Rattle.circuit_cnf.specs.Checking.{gate_groups, group_of, IsChecker};
 ghost use Rattle.circuit_cnf.specs.Failing.{IsFailure, HasFalseClause, IsFailing, is_silent};
 ghost use Rattle.circuit_cnf.specs.Faults.{leaf_of};
-ghost use Rattle.circuit_cnf.specs.Gates.{GrewByGates};
+ghost use Rattle.circuit_cnf.specs.Gates.{AreKnown, GrewByGates};
 ghost use Rattle.circuit_cnf.specs.Shown.{HoldEverywhere, IsShownSince};
 ghost use Rattle.circuit_cnf.specs.Saying.{given_after, given_before, leaf_in};
-ghost use Rattle.circuit_cnf.specs.Turning.{AreFailing, AreLeavesOf, HasTurned, IsHeldBy, IsSaying, is_silent_search};
+ghost use Rattle.circuit_cnf.specs.Turning.{AreFailing, AreLeavesOf, HasTurned, IsAtTurnLimit, IsHeldBy, IsPrepared, IsSaying, is_silent_attempt, is_silent_search};
 
+use crate::batches::mark_live;
 use crate::checkers::Checker;
 use crate::circuits::Circuit;
 use crate::failures::false_clause;
@@ -74,16 +74,34 @@ impl Checker {
             → IsShownSince f.now graph.now outputs.now log.old.entries log.new.entries id }
         ensures fails { (row values : List Bool) (j : ℕ) → result ≡ Ok (Turn.Fails row values j)
             → IsFailure f.now (outputs_of f.now graph.now outputs.now) row values j }
-        ensures limit { IsErrOf result Stop.Limit → (group : ℕ)
-            × IsAtLimit log.new (positive (group_of self.old) ∷ positive group ∷ []) }
+        ensures limit { IsErrOf result Stop.Limit
+            → IsAtTurnLimit self.new log.old.entries log.new }
     {
         shown_outputs_hold();
+        self.prepare(oracle, log)?;
         let circuit = Circuit { graph, f, outputs };
         let leaves = self.output_leaves(oracle, &circuit, log)?;
         let first = self.first_clauses(f, &leaves, suspects)?;
         let found = self.search(oracle, &circuit, &leaves, &first, log)?;
         self.note(&found);
         Ok(found)
+    }
+
+    // Finishes what an earlier turn began, and begins a new group for this turn's gates.
+    fn prepare<O: Oracle>(&mut self, oracle: &mut O, log: &mut Log) -> Result<(), Memory>
+        requires fit { O.Fits oracle.old log.old }
+        requires known { AreKnown self.old.gates log.old.entries }
+        requires few { length (fault_groups log.old.entries) < fault_room log.old.entries }
+        ensures fit { O.Fits oracle.new log.new }
+        ensures turned { IsPrepared self.old self.new log.old log.new }
+        ensures ready { OnOk result (self.new.gates.unfinished ≡ None) }
+    {
+        self.gates.finish(oracle, log)?;
+        if self.has_batch() {
+            self.gates.begin_group(oracle, &self.tenant, log)?;
+            self.batched = self.gates.variables.len();
+        }
+        Ok(())
     }
 
     // The leaves of the outputs, whose gates are named, and given where they weren't.
@@ -95,13 +113,14 @@ impl Checker {
     ) -> Result<Vec<Leaf>, Memory>
         requires fit { O.Fits oracle.old log.old }
         requires checker { IsChecker circuit.now.f.now self.old log.old.entries }
+        requires ready { self.old.gates.unfinished ≡ None }
         requires nodes { All (IsNode circuit.now.graph.now) circuit.now.outputs.now }
         requires read_universals { All (ReadsUniversals circuit.now.f.now circuit.now.graph.now)
             circuit.now.outputs.now }
         requires few { length (fault_groups log.old.entries) < fault_room log.old.entries }
         ensures fit { O.Fits oracle.new log.new }
         ensures checker { IsChecker circuit.now.f.now self.new log.new.entries }
-        ensures group { group_of self.new ≡ group_of self.old }
+        ensures groups { gate_groups self.new ≡ gate_groups self.old }
         ensures grew { GrewByGates (group_of self.old) log.old log.new }
         ensures faults { fault_groups log.new.entries ≡ fault_groups log.old.entries }
         ensures inputs { self.new.inputs ≡ self.old.inputs }
@@ -111,7 +130,6 @@ impl Checker {
     {
         let graph = circuit.graph;
         graph.every_graph_is_lawful();
-        self.gates.finish(oracle, log)?;
         let mut marks = Row::new(self.alloc, graph.len())?;
         graph.cones(circuit.outputs, &mut marks);
         let cone = Cone {
@@ -121,6 +139,7 @@ impl Checker {
             inputs: &self.inputs,
         };
         let literals = cone_literals(self.alloc, &mut self.gates, oracle, &cone, log)?;
+        mark_live(&mut self.live, &self.gates, &literals)?;
         let leaves = node_leaves(self.alloc, &self.inputs, &literals, circuit.outputs)?;
         Ok(leaves)
     }
@@ -156,8 +175,7 @@ impl Checker {
         ensures fails { (row values : List Bool) (j : ℕ) → result ≡ Ok (Turn.Fails row values j)
             → IsFailure circuit.now.f.now (outputs_of circuit.now.f.now circuit.now.graph.now
             circuit.now.outputs.now) row values j }
-        ensures limit { IsErrOf result Stop.Limit → (group : ℕ)
-            × IsAtLimit log.new (positive (group_of self.now) ∷ positive group ∷ []) }
+        ensures limit { IsErrOf result Stop.Limit → IsAtTurnLimit self.now log.old.entries log.new }
     {
         let f = circuit.f;
         let group = oracle.group(&self.tenant, log)?;
@@ -202,42 +220,92 @@ impl Checker {
         ensures fails { (row values : List Bool) (j : ℕ) → result ≡ Ok (Turn.Fails row values j)
             → IsFailure circuit.now.f.now (outputs_of circuit.now.f.now circuit.now.graph.now
             circuit.now.outputs.now) row values j }
-        ensures limit { IsErrOf result Stop.Limit → (group : ℕ)
-            × IsAtLimit log.new (positive (group_of self.now) ∷ positive group ∷ []) }
+        ensures limit { IsErrOf result Stop.Limit → (start : ProofLog)
+            → IsSaying self.now faults.now bads.now (λ j. false) start log.old
+            → IsAtTurnLimit self.now start.entries log.new }
     {
         let early = ClauseSelection {
             marks: first,
             are_set: true,
         };
-        match self.look(oracle, faults, bads, &early, log)? {
-            Some(id) => return Ok(Turn::Holds(id)),
-            None => {
-                if let Some(turn) = self.failure(oracle, circuit)? {
-                    return Ok(turn);
-                }
-            }
+        if let Some(turn) = self.attempt(oracle, circuit, faults, bads, &early, false, log)? {
+            return Ok(turn);
         }
         let others = ClauseSelection {
             marks: first,
             are_set: false,
         };
-        match self.look(oracle, faults, bads, &others, log)? {
-            Some(id) => Ok(Turn::Holds(id)),
-            None => match self.failure(oracle, circuit)? {
-                Some(turn) => Ok(turn),
-                None => unreachable!(),
-            },
+        if let Some(turn) = self.attempt(oracle, circuit, faults, bads, &others, false, log)? {
+            return Ok(turn);
+        }
+        match self.attempt(oracle, circuit, faults, bads, &others, true, log)? {
+            Some(turn) => Ok(turn),
+            None => unreachable!(),
+        }
+    }
+
+    // Gives a turn's group the faults of a part of the clauses, and searches. It decides unless no
+    // clause is false at the row that is found, which is never where all clauses have their faults
+    // and all groups are active.
+    fn attempt<O: Oracle>(
+        &self,
+        oracle: &mut O,
+        circuit: &Circuit,
+        faults: &Faults,
+        bads: &[Lit],
+        part: &ClauseSelection,
+        are_all: bool,
+        log: &mut Log,
+    ) -> Result<Option<Turn>, Stop>
+        requires fit { O.Fits oracle.old log.old }
+        requires formula { IsWellFormed circuit.now.f.now }
+        requires same_formula { faults.now.f.now ≡ circuit.now.f.now }
+        requires same_inputs { faults.now.inputs.now ≡ self.now.inputs.items }
+        requires nodes { All (IsNode circuit.now.graph.now) circuit.now.outputs.now }
+        requires a_bit_a_clause { length part.now.marks.now ≡ length faults.now.f.now.matrix }
+        requires saying { (start : ProofLog)
+            × IsSaying self.now faults.now bads.now (given_before part.now) start log.old
+            × AreLeavesOf faults.now.f.now circuit.now.graph.now start.entries
+            circuit.now.outputs.now faults.now.outputs.now }
+        ensures fit { O.Fits oracle.new log.new }
+        ensures turned { (start : ProofLog)
+            → IsSaying self.now faults.now bads.now (given_before part.now) start log.old
+            → HasTurned faults.now.f.now self.now self.now (is_silent_attempt result) start log.new }
+        ensures saying { (start : ProofLog)
+            → IsSaying self.now faults.now bads.now (given_before part.now) start log.old
+            → result ≡ Ok None
+            → IsSaying self.now faults.now bads.now (given_after part.now) start log.new }
+        ensures held { (start : ProofLog) (id : ℕ)
+            → IsSaying self.now faults.now bads.now (given_before part.now) start log.old
+            → result ≡ Ok (Some (Turn.Holds id))
+            → IsHeldBy faults.now.f.now (leaf_in faults.now) start.entries log.new.entries id }
+        ensures fails { (row values : List Bool) (j : ℕ)
+            → result ≡ Ok (Some (Turn.Fails row values j))
+            → IsFailure circuit.now.f.now (outputs_of circuit.now.f.now circuit.now.graph.now
+            circuit.now.outputs.now) row values j }
+        ensures decided { part.now.are_set ≡ false → are_all ≡ true → result ≡ Ok None → ⊥ }
+        ensures limit { IsErrOf result Stop.Limit → (start : ProofLog)
+            → IsSaying self.now faults.now bads.now (given_before part.now) start log.old
+            → IsAtTurnLimit self.now start.entries log.new }
+    {
+        match self.look(oracle, faults, bads, part, are_all, log)? {
+            Some(id) => Ok(Some(Turn::Holds(id))),
+            None => {
+                let found = self.failure(oracle, circuit)?;
+                Ok(found)
+            }
         }
     }
 
     // Gives a turn's group the faults of a part of the clauses, and searches for values that it
-    // allows.
+    // allows, with the groups of the gates in use, or with all of them.
     fn look<O: Oracle>(
         &self,
         oracle: &mut O,
         faults: &Faults,
         bads: &[Lit],
         part: &ClauseSelection,
+        are_all: bool,
         log: &mut Log,
     ) -> Result<Option<u64>, Stop>
         requires fit { O.Fits oracle.old log.old }
@@ -261,13 +329,16 @@ impl Checker {
             → IsSaying self.now faults.now bads.now (given_before part.now) start log.old
             → result ≡ Ok None
             → part.now.are_set ≡ false
+            → are_all ≡ true
             → AreFailing faults.now.f.now (leaf_in faults.now) start.entries (O.values oracle.new) }
-        ensures limit { IsErrOf result Stop.Limit → (group : ℕ)
-            × IsAtLimit log.new (positive (group_of self.now) ∷ positive group ∷ []) }
+        ensures limit { IsErrOf result Stop.Limit → (start : ProofLog)
+            → IsSaying self.now faults.now bads.now (given_before part.now) start log.old
+            → IsAtTurnLimit self.now start.entries log.new }
     {
         faults.say(oracle, bads, part, log)?;
         self.focus_on_rows(oracle, faults.f);
-        match oracle.solve(&[self.gates.group, *faults.group], &[], log)? {
+        let active = self.active_groups(faults.group, are_all)?;
+        match oracle.solve(&active, &[], log)? {
             Answer::Unsat(id) => Ok(Some(id)),
             Answer::Sat => Ok(None),
         }

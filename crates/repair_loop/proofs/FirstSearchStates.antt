@@ -3,9 +3,9 @@ use Rattle.std.proofs.Common.{◌≡◌, ◌≢◌, ◌+◌, ℕ, zero, suc, Boo
 use Rattle.std.specs.List.{Contains, filter}
 use Rattle.std.specs.Option.{unwrap_or}
 use Rattle.std.proofs.lemmas.List.{append-nil}
-use Rattle.list_laws.proofs.Members.{filter_keeps}
+use Rattle.list_laws.proofs.Members.{filter_keeps, contains_first}
 use Rattle.dq_lits.specs.Formula.{Dqbf}
-use Rattle.dq_lits.specs.Literal.{Literal}
+use Rattle.dq_lits.specs.Literal.{Literal, variable_of}
 use Rattle.hint_log.specs.Deciding.{IsUndecided}
 use Rattle.hint_log.specs.Entries.{Entry, Named, Given, Learned, Answer, Round, Begun, ProofLog, name_of}
 use Rattle.hint_log.specs.Growth.{Each, EachOf, Grew}
@@ -20,7 +20,7 @@ use Rattle.log_laws.specs.Sessions.{IsAddedLive, EnginesLeaveSessions, PlainLogs
 use Rattle.oracle.specs.Searched.{IsSearched}
 use Rattle.aig_graph.specs.Graph.{AigGraph}
 use Rattle.circuit_cnf.specs.declared.checkers.Checker.{Checker}
-use Rattle.circuit_cnf.specs.Checking.{IsChecker, group_of}
+use Rattle.circuit_cnf.specs.Checking.{AreNewGroups, IsChecker, gate_groups, group_of}
 use Rattle.dq_session.specs.Databases.{DatabaseState, all_of, frames_of, IsDatabase}
 use Rattle.dq_session.specs.Changes.{groups_of}
 use Rattle.dq_session.specs.Preservation.{EnginesLeaveDatabases}
@@ -228,7 +228,7 @@ module _ (laws : FirstLaws) (f : Dqbf) (b : DatabaseState) (first mid last : Pro
     (stored : IsCopyStore f (replicate (length f.matrix) 0) p mid.entries)
     (new_copies : (g : ℕ) → Contains (copy_groups p) g → name_of first.entries g ≡ None)
     (checked : (group : ℕ) → Grew (IsAddedBy f circuits group true mid.entries) mid last)
-    (checker : IsChecker f c last.entries) (new_checker : name_of mid.entries (group_of c) ≡ None)
+    (checker : IsChecker f c last.entries) (new_checker : AreNewGroups (gate_groups c) mid.entries)
     (no_faults : fault_groups last.entries ≡ fault_groups mid.entries) where
   log : IsFirstLog f first.entries
   log = first_log laws.sessions laws.plain f b first.entries start
@@ -251,7 +251,8 @@ module _ (laws : FirstLaws) (f : Dqbf) (b : DatabaseState) (first mid last : Pro
       (live_by f copies (b.table.group + 1) first mid log.none (copied (b.table.group + 1))) refl off).0 start.database
 
   is_new : (h : ℕ) → Contains (group_of c ∷ []) h → name_of mid.entries h ≡ None
-  is_new h (zero, below, is) = subst (λ n. name_of mid.entries n ≡ None) is new_checker
+  is_new h (zero, below, is) = subst (λ n. name_of mid.entries n ≡ None) is
+      (new_checker c.gates.group (contains_first c.gates.group c.gates.earlier.items))
   is_new h (suc k, below, is) = absurd (omega (arith, below))
 
   last_database : IsDatabase b last.entries
@@ -272,10 +273,10 @@ module _ (laws : FirstLaws) (f : Dqbf) (b : DatabaseState) (first mid last : Pro
 
   apart : AreApart b c p
   apart = record {
-    gates = λ mine. database_named b mid.entries mid_database (group_of c) mine new_checker;
+    gates = λ g gate mine. database_named b mid.entries mid_database (variable_of g.selector) mine (new_checker g gate);
     copies = λ g mine here. database_named b first.entries start.database g here (new_copies g mine);
-    copies_gates = λ mine. stored_named f (replicate (length f.matrix) 0) (store_of p) mid.entries stored (group_of c)
-        mine new_checker;
+    copies_gates = λ g gate mine. stored_named f (replicate (length f.matrix) 0) (store_of p) mid.entries stored
+        (variable_of g.selector) mine (new_checker g gate);
   }
 
   pub last_plain : IsPlain f last.entries

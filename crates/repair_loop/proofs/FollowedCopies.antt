@@ -2,13 +2,15 @@
 use Rattle.std.proofs.Common.{◌≡◌, ◌≢◌, ◌⊎◌, inl, inr, ℕ, Bool, true, false, List, length, None, refl, ◌∙◌, ap, subst, arith}
 use Rattle.std.specs.List.{Contains}
 use Rattle.dq_lits.specs.Formula.{Dqbf}
+use Rattle.dq_lits.specs.Literal.{variable_of}
 use Rattle.hint_log.specs.Entries.{ProofLog, name_of}
 use Rattle.hint_log.specs.Growth.{Grew}
 use Rattle.log_laws.specs.Engines.{copies}
 use Rattle.log_laws.specs.Sessions.{IsAddedLive, EnginesLeaveSessions}
 use Rattle.aig_graph.specs.Graph.{AigGraph}
 use Rattle.circuit_cnf.specs.declared.checkers.Checker.{Checker}
-use Rattle.circuit_cnf.specs.Checking.{CheckersStay, group_of}
+use Rattle.oracle.specs.declared.groups.Group.{Group}
+use Rattle.circuit_cnf.specs.Checking.{CheckersStay, gate_groups}
 use Rattle.dq_session.specs.Databases.{DatabaseState, all_of, frames_of}
 use Rattle.dq_session.specs.Changes.{groups_of}
 use Rattle.dq_session.specs.Preservation.{EnginesLeaveDatabases}
@@ -46,16 +48,17 @@ module _ (law : EnginesLeaveSessions) (databases : EnginesLeaveDatabases) (stay 
   still_apart = record {
     gates = way.apart.gates;
     copies = λ g has here. off_database g (fresh g has) here;
-    copies_gates = λ has. off_gates (fresh (group_of c) has);
+    copies_gates = λ g gate has. off_gates g gate (fresh (variable_of g.selector) has);
   }
     where
       off_database : (g : ℕ) → Contains mine g ⊎ (name_of old.entries g ≡ None) → Contains (groups_of b) g → ⊥
       off_database g (inl before) here = way.apart.copies g before here
       off_database g (inr none) here = database_named b old.entries way.database g here none
 
-      off_gates : Contains mine (group_of c) ⊎ (name_of old.entries (group_of c) ≡ None) → ⊥
-      off_gates (inl before) = way.apart.copies_gates before
-      off_gates (inr none) = let is = way.checked.gates.made.named in cc
+      off_gates : (g : Group) → Contains (gate_groups c) g →
+          Contains mine (variable_of g.selector) ⊎ (name_of old.entries (variable_of g.selector) ≡ None) → ⊥
+      off_gates g gate (inl before) = way.apart.copies_gates g gate before
+      off_gates g gate (inr none) = let is = (way.checked.gates.made g gate).named in cc
 
   new_way : (ready : Bool) → (ready ≡ true → IsDefinability f q new.entries) → IsUnderWay f b c q ready new.entries
   new_way ready copied =

@@ -1,9 +1,9 @@
 -- What engines add in a session: which groups get faults, what room there is for them, and what leaves a
 -- checker as it is. Questions add so little that any engine may have added it.
-use Rattle.std.proofs.Common.{◌≡◌, ◌≢◌, ℕ, zero, suc, ◌+◌, ◌-◌, Bool, true, false, inl, inr, ◌⊎◌, List, [], ◌∷◌, ◌++◌, Option, None, Some, IsSome, refl, sym, ◌∙◌, ap, subst, arith}
+use Rattle.std.proofs.Common.{◌≡◌, ◌≢◌, ℕ, zero, suc, ◌+◌, ◌-◌, ◌<◌, Bool, true, false, inl, inr, ◌⊎◌, List, [], ◌∷◌, ◌++◌, Option, None, Some, IsSome, refl, sym, ◌∙◌, ap, subst, arith}
 use Rattle.std.specs.List.{Contains}
 use Rattle.list_laws.proofs.Members.{contains_later}
-use Rattle.dq_lits.specs.Literal.{Literal}
+use Rattle.dq_lits.specs.Literal.{Literal, variable_of}
 use Rattle.dq_lits.specs.Formula.{Dqbf}
 use Rattle.hint_log.specs.Entries.{Entry, Named, Given, Learned, Answer, Round, Begun, ProofLog, name_of, rounds_of, beginnings_of}
 use Rattle.hint_log.specs.Growth.{EachOf, Grew}
@@ -18,7 +18,8 @@ use Rattle.log_laws.specs.Engines.{Engine, circuits, same_engine, origin_engine,
 use Rattle.log_laws.specs.Sessions.{IsAddedLive}
 use Rattle.log_laws.proofs.LargerLogs.{grown_by}
 use Rattle.circuit_cnf.specs.declared.checkers.Checker.{Checker}
-use Rattle.circuit_cnf.specs.Checking.{IsChecker, CheckersStay, group_of}
+use Rattle.oracle.specs.declared.groups.Group.{Group}
+use Rattle.circuit_cnf.specs.Checking.{IsChecker, CheckersStay, gate_groups}
 use Rattle.known_functions.specs.Searching.{IsAsked}
 
 asked_formula : (f : Dqbf) (more old : List Entry) → EachOf (IsAsked f) more old →
@@ -120,34 +121,54 @@ plain_origin all engine earlier (Link v i) c other own is = is
 plain_origin all engine earlier (TermGate v i) c other own is = is
 plain_origin all engine earlier (Differ y leaf part) c other own is = is
 
+-- a number that no group has
+abbrev above : List Group → ℕ
+above [] = 0
+above (g ∷ gs) = suc (variable_of g.selector) + above gs
+
+below_all : (gs : List Group) (g : Group) → Contains gs g → variable_of g.selector < above gs
+below_all [] g (k, below, is) = absurd (omega (arith, below))
+below_all (h ∷ gs) g (zero, below, is) =
+    let same : variable_of h.selector ≡ variable_of g.selector = ap (λ (x : Group). variable_of x.selector) is in
+    let more : above (h ∷ gs) ≡ suc (variable_of h.selector) + above gs = refl in
+    omega (arith, same, more)
+below_all (h ∷ gs) g (suc k, below, is) =
+    let low = below_all gs g (k, omega (arith, below), is) in
+    let more : above (h ∷ gs) ≡ suc (variable_of h.selector) + above gs = refl in
+    omega (arith, low, more)
+
 abbrev log_of : List Entry → ProofLog
 log_of es = record { limit = 0; entries = es }
 
 module _ (stay : CheckersStay) (all : Dqbf) (engine : Engine) (other : same_engine circuits engine ≡ false)
-    (groups : List ℕ) (silent : Bool) (c : Checker) (apart : Contains groups (group_of c) → ⊥)
-    (start : List Entry) (made : IsSome (name_of start (group_of c))) where
-  -- one entry, in a group that isn't the gates'
-  by_one : (g : ℕ) (earlier : List Entry) (e : Entry) → group_of c ≢ g →
+    (groups : List ℕ) (silent : Bool) (c : Checker)
+    (apart : (h : Group) → Contains (gate_groups c) h → Contains groups (variable_of h.selector) → ⊥)
+    (start : List Entry)
+    (made : (h : Group) → Contains (gate_groups c) h → IsSome (name_of start (variable_of h.selector))) where
+  -- one entry, in a group that is none of the gates'
+  by_one : (g : ℕ) (earlier : List Entry) (e : Entry) →
+      ((h : Group) → Contains (gate_groups c) h → variable_of h.selector ≢ g) →
       IsAddedBy all engine g false earlier earlier e → IsChecker all c earlier → IsChecker all c (e ∷ earlier)
   by_one g earlier e differ added before =
       stay all c engine g false (log_of earlier) (log_of (e ∷ earlier)) other differ
       (grown_by (IsAddedBy all engine g false earlier) (log_of earlier) (log_of (e ∷ earlier)) e refl added) before
 
-  not_more : group_of c ≢ group_of c + 1
-  not_more e = omega (arith, e)
+  not_more : (h : Group) → Contains (gate_groups c) h → variable_of h.selector ≢ above (gate_groups c)
+  not_more h mine e = let low = below_all (gate_groups c) h mine in omega (arith, low, e)
 
-  differs : (g : ℕ) → Contains groups g ⊎ (name_of start g ≡ None) → group_of c ≢ g
-  differs g (inl among) e = apart (subst (Contains groups) (sym e) among)
-  differs g (inr none) e =
-      let nothing : name_of start (group_of c) ≡ None = ap (name_of start) e ∙ none in
-      let some : IsSome (name_of start (group_of c)) = made in
+  differs : (g : ℕ) → Contains groups g ⊎ (name_of start g ≡ None) →
+      (h : Group) → Contains (gate_groups c) h → variable_of h.selector ≢ g
+  differs g (inl among) h mine e = apart h mine (subst (Contains groups) (sym e) among)
+  differs g (inr none) h mine e =
+      let nothing : name_of start (variable_of h.selector) ≡ None = ap (name_of start) e ∙ none in
+      let some : IsSome (name_of start (variable_of h.selector)) = made h mine in
       cc
 
   checker_each : (more : List Entry) → EachOf (IsAddedLive all engine groups silent start) more start →
       IsChecker all c start → IsChecker all c (more ++ start)
   checker_each [] each before = before
   checker_each (Named v n ∷ more) each before =
-      by_one (group_of c + 1) (more ++ start) (Named v n) not_more each.0 (checker_each more each.1 before)
+      by_one (above (gate_groups c)) (more ++ start) (Named v n) not_more each.0 (checker_each more each.1 before)
   checker_each (Given origin d ∷ more) each before =
       let given = each.0 in
       let g = given.in_group.0 in
@@ -158,9 +179,9 @@ module _ (stay : CheckersStay) (all : Dqbf) (engine : Engine) (other : same_engi
         not_repeated = given.not_repeated;
       }) (checker_each more each.1 before)
   checker_each (Learned d hints ∷ more) each before =
-      by_one (group_of c + 1) (more ++ start) (Learned d hints) not_more tt (checker_each more each.1 before)
+      by_one (above (gate_groups c)) (more ++ start) (Learned d hints) not_more tt (checker_each more each.1 before)
   checker_each (Answer d hints ∷ more) each before =
-      by_one (group_of c + 1) (more ++ start) (Answer d hints) not_more (λ quiet. cc)
+      by_one (above (gate_groups c)) (more ++ start) (Answer d hints) not_more (λ quiet. cc)
       (checker_each more each.1 before)
   checker_each (Round row values j ∷ more) each before = absurd each.0
   checker_each (Begun live ∷ more) each before = absurd each.0
@@ -170,11 +191,14 @@ some_is None n is = cc
 some_is (Some m) n is = refl
 
 pub checker_left : CheckersStay → (all : Dqbf) (engine : Engine) (groups : List ℕ) (silent : Bool) (c : Checker)
-    (old new : ProofLog) → same_engine circuits engine ≡ false → (Contains groups (group_of c) → ⊥) →
+    (old new : ProofLog) → same_engine circuits engine ≡ false →
+    ((h : Group) → Contains (gate_groups c) h → Contains groups (variable_of h.selector) → ⊥) →
     Grew (IsAddedLive all engine groups silent old.entries) old new → IsChecker all c old.entries →
     IsChecker all c new.entries
 checker_left stay all engine groups silent c old new other apart grew before =
-    let some = some_is (name_of old.entries (group_of c)) (Selector (group_of c)) before.gates.made.named in
+    let some : (h : Group) → Contains (gate_groups c) h → IsSome (name_of old.entries (variable_of h.selector)) =
+    λ h mine. some_is (name_of old.entries (variable_of h.selector)) (Selector (variable_of h.selector))
+    (before.gates.made h mine).named in
     subst (IsChecker all c) (sym grew.grown)
     (checker_each stay all engine other groups silent c apart old.entries some grew.more grew.each before)
 
@@ -193,12 +217,13 @@ pub checker_begun : (f : Dqbf) (c : Checker) (live : List ℕ) (es : List Entry)
     IsChecker f c (Begun live ∷ es)
 checker_begun f c live es is = record {
   gates = record {
-    made = record { positive = is.gates.made.positive; named = is.gates.made.named };
+    made = λ h mine. record { positive = (is.gates.made h mine).positive; named = (is.gates.made h mine).named };
     known = is.gates.known;
     sound = is.gates.sound;
-    clauses = λ a b v found i rest few rest_is. contains_later (Begun live) _ es (is.gates.clauses a b v found i rest few rest_is);
+    clauses = λ a b v found. let have = is.gates.clauses a b v found in
+        (have.0, have.1, λ i rest few rest_is. contains_later (Begun live) _ es (have.2 i rest few rest_is));
     origins = λ v i d has. is.gates.origins v i d (still_given live es _ d has);
-    own = (tt, is.gates.own);
+    own = λ h mine. (tt, is.gates.own h mine);
     last = λ gate last. let h = is.gates.last gate last in record {
       named = h.named;
       few = h.few;

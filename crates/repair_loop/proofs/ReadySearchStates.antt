@@ -3,11 +3,11 @@ use Rattle.std.proofs.Common.{◌≡◌, ℕ, List, [], ◌∷◌, ◌++◌, len
 use Rattle.std.specs.List.{Contains, filter_map, cons_option}
 use Rattle.std.specs.Option.{option_map}
 use Rattle.std.proofs.lemmas.List.{length-append, length-replicate}
+use Rattle.dq_lits.specs.Literal.{variable_of}
 use Rattle.hint_log.specs.Entries.{Entry}
 use Rattle.hint_log.specs.Live.{with_matrix}
 use Rattle.hint_log.specs.ProductiveSession.{IsProductiveSession}
 use Rattle.oracle.specs.declared.groups.Group.{Group}
-use Rattle.circuit_cnf.specs.Checking.{group_of}
 use Rattle.dq_session.specs.Databases.{DatabaseState, number_of, all_of, frames_of, IsDatabase}
 use Rattle.dq_session.specs.Changes.{newest, groups_of, with_frame, with_clause}
 use Rattle.dq_session.specs.Changing.{FramesOpen as OpenFramesLeaveDatabases, FramesClose as ClosedFramesLeaveDatabases, ClausesCome as ClausesLeaveDatabases}
@@ -30,7 +30,8 @@ frames_open law b d graph entries r =
         checked = r.search_state.checked;
         stored = r.search_state.stored;
         apart = record {
-          gates = λ inside. r.search_state.apart.gates (subst (λ gs. Contains gs (group_of d.checker)) same inside);
+          gates = λ g gate inside. r.search_state.apart.gates g gate
+              (subst (λ gs. Contains gs (variable_of g.selector)) same inside);
           copies = λ g mine inside. r.search_state.apart.copies g mine (subst (λ gs. Contains gs g) same inside);
           copies_gates = r.search_state.apart.copies_gates;
         };

@@ -1,11 +1,11 @@
 -- What each call leaves of a search that is under way.
 use Rattle.std.proofs.Common.{◌≡◌, ◌≢◌, inl, inr, ℕ, Bool, true, List, [], ◌∷◌, length, Some, refl, sym, ◌∙◌, ap, subst, arith}
 use Rattle.std.specs.List.{Contains}
-use Rattle.list_laws.proofs.Members.{only_one}
+use Rattle.list_laws.proofs.Members.{only_one, contains_first}
 use Rattle.dq_lits.specs.Formula.{Dqbf}
 use Rattle.dq_lits.specs.Literal.{Literal, negative, variable_of}
 use Rattle.hint_log.specs.Entries.{Entry, Given, ProofLog}
-use Rattle.hint_log.specs.Growth.{Each, Grew}
+use Rattle.hint_log.specs.Growth.{Grew}
 use Rattle.hint_log.specs.Live.{formula_by, live_formula}
 use Rattle.hint_log.specs.Naming.{rows_of}
 use Rattle.hint_log.specs.ProductiveLog.{IsNewFailure, HasModelWith}
@@ -16,7 +16,6 @@ use Rattle.log_laws.specs.Sessions.{IsAddedLive, EnginesLeaveSessions, CircuitsA
 use Rattle.circuit_cnf.specs.declared.checkers.Checker.{Checker}
 use Rattle.circuit_cnf.specs.Checking.{IsChecker, group_of, CheckersStay, CheckersStayWithRounds}
 use Rattle.circuit_cnf.specs.Failing.{FailuresRefuteRows}
-use Rattle.circuit_cnf.specs.Gates.{IsGateGiven}
 use Rattle.dq_session.specs.Databases.{DatabaseState, IsInFrame, all_of, frames_of, live_of, now_of, IsDatabase, IsFullDatabase}
 use Rattle.dq_session.specs.Changes.{groups_of}
 use Rattle.dq_session.specs.Grouped.{InstancesAreGrouped}
@@ -25,7 +24,7 @@ use Rattle.dq_session.proofs.GroupedFrames.{frame_group}
 use Rattle.dq_session.proofs.PreservedDatabases.{has_number}
 use Rattle.definability.specs.Leaving.{EnginesLeaveStores, RoundsLeaveStores, SessionsLeaveCopies, CopiesAreGrouped, CopiesAreStored, ActiveGroupsAreStored}
 use Rattle.definability.specs.Preservation.{RoundsLeaveCopies}
-use Rattle.definability.specs.Store.{IsCopyStore, copy_groups}
+use Rattle.definability.specs.Store.{IsCopyStore, copy_groups, store_of}
 use Rattle.definability.specs.declared.definability.Definability.{Definability}
 use Rattle.repair_loop.specs.SearchStates.{IsKept, IsDatabaseAfter}
 use Rattle.repair_loop.specs.Preservation.{QuestionsLeaveSearches, TurnsLeaveSearches, InstancesLeaveSearches, FailuresAreRounds, SearchStatesAreGrouped, InstancesLeaveLogs}
@@ -35,8 +34,9 @@ use Rattle.repair_loop.proofs.LiveGrowth.{asked_live, same_faults, same_room, ch
 use Rattle.repair_loop.proofs.LogGrowth.{log_grew}
 use Rattle.repair_loop.proofs.NewFaults.{others_new, turns_new}
 use Rattle.repair_loop.proofs.Rows.{no_old_row}
-use Rattle.repair_loop.proofs.StoredGroups.{apart_still}
+use Rattle.repair_loop.proofs.StoredGroups.{apart_still, stored_named}
 use Rattle.log_laws.proofs.Kept.{in_one_group}
+use Rattle.repair_loop.proofs.LiveDatabases.{database_named}
 
 pub same_database : (b : DatabaseState) → IsDatabaseAfter b b
 same_database b = record { same = refl; many_groups = refl }
@@ -86,7 +86,7 @@ questions_left law databases stores stay f b c p ready old new asked copied way 
             kept = still_kept law all copies [] true old new mine way.kept;
             database = (databases all b copies [] true old new mine refl (no_groups (groups_of b))).0 way.database;
             checked = same_prefix b.file all.matrix b.file.matrix c new.entries
-                (checker_left stay all copies [] true c old new refl (λ has. absurd (let below = has.1 in
+                (checker_left stay all copies [] true c old new refl (λ h gate has. absurd (let below = has.1 in
                 omega (arith, below))) mine (same_prefix b.file b.file.matrix all.matrix c old.entries way.checked));
             copied = copied;
             stored = stores all all (frames_of b) p instances [] true old new other refl (no_groups (copy_groups p))
@@ -115,10 +115,12 @@ turns_left law add databases stores sessions active f b c d p ready silent old n
     let grew = add all group silent old new
     (subst (λ g. Grew (IsAddedBy g circuits group silent old.entries) old new) now turned.grew) in
     let left = law all circuits (group ∷ []) silent old new grew in
+    let first = contains_first c.gates.group c.gates.earlier.items in
     let off_databases : (g h : ℕ) → Contains (groups_of b) g → Contains (group ∷ []) h → g ≢ h =
-    λ g h mine one same. way.apart.gates (subst (Contains (groups_of b)) (same ∙ sym (only_one group h one)) mine) in
+    λ g h mine one same. way.apart.gates c.gates.group first
+    (subst (Contains (groups_of b)) (same ∙ sym (only_one group h one)) mine) in
     let off_copies : (g h : ℕ) → Contains (copy_groups p) g → Contains (group ∷ []) h → g ≢ h =
-    λ g h mine one same. way.apart.copies_gates
+    λ g h mine one same. way.apart.copies_gates c.gates.group first
     (subst (Contains (copy_groups p)) (same ∙ sym (only_one group h one)) mine) in
     record {
       went = record {
@@ -135,13 +137,20 @@ turns_left law add databases stores sessions active f b c d p ready silent old n
               (way.copied on);
           stored = stores all all (frames_of b) p circuits (group ∷ []) silent old new grew refl off_copies way.stored;
           apart = record {
-            gates = λ inside. way.apart.gates (subst (Contains (groups_of b)) turned.group inside);
+            gates = λ g gate inside. elim (turned.fresh g gate) [
+              | inl was ↦ way.apart.gates g was inside
+              | inr none ↦ database_named b old.entries way.database (variable_of g.selector) inside none
+            ];
             copies = way.apart.copies;
-            copies_gates = λ inside. way.apart.copies_gates (subst (Contains (copy_groups p)) turned.group inside);
+            copies_gates = λ g gate inside. elim (turned.fresh g gate) [
+              | inl was ↦ way.apart.copies_gates g was inside
+              | inr none ↦ stored_named all (frames_of b) (store_of p) old.entries way.stored (variable_of g.selector)
+                  inside none
+            ];
           };
           faults = turned.few;
           new_faults = turns_new all group silent old new grew left.before
-              (subst (λ n. Each (IsGateGiven n) new.entries) turned.group turned.checker.gates.own) way.new_faults;
+              (turned.checker.gates.own c.gates.group (turned.kept c.gates.group first)) way.new_faults;
         };
         database = same_database b;
         grew = log_grew all circuits (group ∷ []) silent old.entries old new grew;

@@ -3,10 +3,11 @@ use Rattle.std.proofs.Common.{◌≡◌, ◌⊎◌, ℕ, zero, suc, inl, inr, Li
 use Rattle.std.specs.List.{Contains}
 use Rattle.hint_log.specs.Entries.{Entry, name_of}
 use Rattle.dq_lits.specs.Formula.{Dqbf}
+use Rattle.dq_lits.specs.Literal.{variable_of}
 use Rattle.oracle.specs.Calls.{IsMade}
 use Rattle.oracle.specs.declared.groups.Group.{Group}
 use Rattle.circuit_cnf.specs.declared.checkers.Checker.{Checker}
-use Rattle.circuit_cnf.specs.Checking.{IsChecker, group_of}
+use Rattle.circuit_cnf.specs.Checking.{IsChecker, gate_groups}
 use Rattle.dq_session.specs.Databases.{DatabaseState}
 use Rattle.dq_session.specs.Changes.{groups_of}
 use Rattle.definability.specs.Copies.{group_variable}
@@ -71,14 +72,15 @@ pub apart_still : (f all : Dqbf) (numbered : List ℕ) (b after : DatabaseState)
     → ((n : ℕ) → Contains (groups_of after) n → Contains (groups_of b) n ⊎ (name_of es n ≡ None))
     → AreApart b c p → AreApart after c p
 apart_still f all numbered b after c p es checked stored fresh apart = record {
-  gates = λ inside. gates (fresh (group_of c) inside);
+  gates = λ g mine inside. gates g mine (fresh (variable_of g.selector) inside);
   copies = λ g mine inside. copies g mine (fresh g inside);
   copies_gates = apart.copies_gates;
 }
   where
-    gates : Contains (groups_of b) (group_of c) ⊎ (name_of es (group_of c) ≡ None) → ⊥
-    gates (inl before) = apart.gates before
-    gates (inr none) = let is = checked.gates.made.named in cc
+    gates : (g : Group) → Contains (gate_groups c) g →
+        Contains (groups_of b) (variable_of g.selector) ⊎ (name_of es (variable_of g.selector) ≡ None) → ⊥
+    gates g mine (inl before) = apart.gates g mine before
+    gates g mine (inr none) = let is = (checked.gates.made g mine).named in cc
 
     copies : (g : ℕ) → Contains (copy_groups p) g → Contains (groups_of b) g ⊎ (name_of es g ≡ None) → ⊥
     copies g mine (inl before) = apart.copies g mine before

@@ -2,6 +2,7 @@
 use Rattle.std.specs.Prelude.{◌≡◌, ◌+◌, ◌≤◌, ℕ, true, List, [], ◌∷◌, ◌++◌, length, Some, IsSome}
 use Rattle.std.specs.List.{Contains}
 use Rattle.dq_lits.specs.Formula.{Dqbf}
+use Rattle.dq_lits.specs.Literal.{variable_of}
 use Rattle.dq_lits.specs.Expansion.{IsExpansionUnsatisfiable}
 use Rattle.hint_log.specs.Deciding.{DecidesTrue}
 use Rattle.hint_log.specs.Entries.{Entry, Given, Round, Begun, ProofLog, rounds_of, beginnings_of}
@@ -15,8 +16,9 @@ use Rattle.log_laws.specs.Engines.{instances}
 use Rattle.log_laws.specs.Sessions.{IsAddedLive}
 use Rattle.aig_graph.specs.declared.nodes.Node.{Node}
 use Rattle.aig_graph.specs.Graph.{AigGraph}
+use Rattle.oracle.specs.declared.groups.Group.{Group}
 use Rattle.circuit_cnf.specs.declared.checkers.Checker.{Checker}
-use Rattle.circuit_cnf.specs.Checking.{IsChecker, group_of}
+use Rattle.circuit_cnf.specs.Checking.{IsChecker, gate_groups}
 use Rattle.dq_session.specs.Databases.{DatabaseState, all_of, frames_of, now_of, IsDatabase, IsFullDatabase}
 use Rattle.dq_session.specs.Changes.{begun, groups_of}
 use Rattle.dq_session.specs.Shown.{IsRefutedLive}
@@ -36,9 +38,9 @@ pub record IsKept (all : Dqbf) (entries : List Entry) : Type 0 where
 
 -- the groups of the instances, of the gates and of the copies differ
 pub record AreApart (b : DatabaseState) (c : Checker) (p : Definability) : Type 0 where
-  pub gates : Contains (groups_of b) (group_of c) → ⊥
+  pub gates : (g : Group) → Contains (gate_groups c) g → Contains (groups_of b) (variable_of g.selector) → ⊥
   pub copies : (g : ℕ) → Contains (copy_groups p) g → Contains (groups_of b) g → ⊥
-  pub copies_gates : Contains (copy_groups p) (group_of c) → ⊥
+  pub copies_gates : (g : Group) → Contains (gate_groups c) g → Contains (copy_groups p) (variable_of g.selector) → ⊥
 
 -- a file's database, in a log that has nothing else
 pub record IsFirstDatabase (f : Dqbf) (b : DatabaseState) (entries : List Entry) : Type 0 where

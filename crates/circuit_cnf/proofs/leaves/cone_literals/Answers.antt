@@ -1,4 +1,4 @@
-use Rattle.std.proofs.Common.{◌≡◌, ◌+◌, true, false, length, sym, subst}
+use Rattle.std.proofs.Common.{◌≡◌, ◌∙◌, ◌+◌, true, false, length, sym, subst}
 use Rattle.dq_lits.specs.Row.{bit_of}
 use Rattle.aig_graph.specs.declared.nodes.Node.TheVariants.{Gate}
 use Rattle.hint_log.specs.declared.origins.Leaf.TheVariants.{Literal as LeafLiteral}
@@ -25,6 +25,7 @@ loop-preserved g c =
     c.loop.log c.next_literal.new.gates c.next_literal.new.log l (length c.loop.literals.items) = record {
       grew = c.next_literal.ensures.grew;
       group = c.next_literal.ensures.group;
+      earlier = c.next_literal.ensures.earlier;
       faults = c.next_literal.ensures.faults;
       bads = c.next_literal.ensures.bads;
       known = c.next_literal.ensures.known;
@@ -41,3 +42,12 @@ loop-preserved g c =
           c.args.cone.now.inputs.now c.args.cone.now.marks.now c.args.gates.now c.args.log.now c.next_literal.new.gates
           c.next_literal.new.log xs (c.loop.counter + 1)) (sym c.in_ok-push.ensures.items) more,
     )
+
+pub returns-in_err-l-clause-earlier : goal.returns-in_err-l-clause-earlier
+returns-in_err-l-clause-earlier g c = c.next_literal.ensures.earlier ∙ c.loop.invariant.1.earlier
+
+pub returns-in_err-push-clause-earlier : goal.returns-in_err-push-clause-earlier
+returns-in_err-push-clause-earlier g c = c.next_literal.ensures.earlier ∙ c.loop.invariant.1.earlier
+
+pub returns-clause-earlier : goal.returns-clause-earlier
+returns-clause-earlier g c = c.loop.invariant.1.earlier

@@ -1,17 +1,19 @@
-use Rattle.std.proofs.Common.{◌≡◌, ◌∙◌, ◌||◌, ap, not, subst, true, Ok, [], ◌∷◌}
-use Rattle.std.proofs.lemmas.List.Elements.{All-cons, All-nil}
-use Rattle.dq_lits.specs.Literal.{positive, variable_of}
+use Rattle.std.proofs.Common.{arith, ◌≡◌, ◌∙◌, ◌||◌, ap, not, subst, true, Ok}
+use Rattle.dq_lits.specs.Literal.{variable_of}
 use Rattle.dq_lits.specs.Row.{bit_of}
-use Rattle.dq_lits.proofs.SignedLiterals.{as_positive}
 use Rattle.hint_log.specs.Entries.{clause_at}
-use Rattle.oracle.specs.Calls.{IsMade, IsRefutedUnder}
+use Rattle.oracle.specs.Calls.{IsMade, IsModelUnder, IsRefutedUnder}
+use Rattle.oracle.specs.Limits.{IsAtLimit}
+use Rattle.circuit_cnf.specs.Checking.{gate_groups}
+use Rattle.circuit_cnf.proofs.ActiveGroups.{active_cases, active_made, active_of_turn, all_are, assumed_are}
+use Rattle.std.specs.List.{Contains}
 use Rattle.circuit_cnf.specs.Saying.{given_after, given_before, leaf_in, selector_in}
 use Rattle.circuit_cnf.specs.Turning.{IsHeldBy}
 use Rattle.circuit_cnf.proofs.FalseClauses.{are_failing, switched_on}
 use Rattle.circuit_cnf.proofs.GroupFaults.{all_given}
 use Rattle.circuit_cnf.proofs.HeldGroups.{held_by}
 use Rattle.circuit_cnf.proofs.TurnParts.{saying_turned, saying_on, saying_more, learned_said}
-use Rattle.circuit_cnf.proofs.TurnStages.{learned_turned, answered_turned, quiet_turned, faults_two_groups}
+use Rattle.circuit_cnf.proofs.TurnStages.{learned_turned, answered_turned, quiet_turned, faults_groups}
 use Rattle.circuit_cnf.proofs.checkers.Checker.look.Goals as goal
 
 pub returns-in_err-say-clause-turned : goal.returns-in_err-say-clause-turned
@@ -27,10 +29,16 @@ solve-requires-clause-made g c =
     c.args.log.now w c.say.new.log c.say.ensures.said in
     let turned = saying_turned c.args.self.now c.args.faults.now c.args.bads.now (given_before c.args.part.now) c.requires.saying.0
     c.say.new.log on true in
-    let made = IsMade c.say.new.log.entries in
-    let group = c.args.faults.now.group.now in
-    All-cons made c.args.self.now.gates.group (group ∷ []) turned.checker.gates.made
-    (All-cons made group [] on.may.made (All-nil made))
+    all_are (IsMade c.say.new.log.entries) c.deref.result.now (λ h inside.
+    active_made c.args.self.now c.args.faults.now.group.now c.args.are_all c.in_ok-active.active.items
+    c.in_ok-active.ensures c.say.new.log.entries turned.checker.gates.made on.may.made h
+    (subst (λ hs. Contains hs h) c.deref.ensures.value inside))
+
+pub returns-in_err-active-clause-turned : goal.returns-in_err-active-clause-turned
+returns-in_err-active-clause-turned g c start w =
+    let on = saying_on c.args.self.now c.args.faults.now c.args.bads.now (given_before c.args.part.now) start c.args.log.now w
+    c.say.new.log c.say.ensures.said in
+    saying_turned c.args.self.now c.args.faults.now c.args.bads.now (given_before c.args.part.now) start c.say.new.log on _
 
 pub returns-in_err-id-clause-turned : goal.returns-in_err-id-clause-turned
 returns-in_err-id-clause-turned g c start w =
@@ -52,8 +60,39 @@ returns-in-Unsat-clause-turned g c start w =
     answered_turned f c.args.self.now start c.say.new.log c.solve.new.log turned _ c.in-Unsat.id
     (c.solve.ensures.unsat c.in-Unsat.id (c.in_ok-id.was ∙ ap Ok c.in-Unsat.is))
 
-pub returns-in-Sat-clause-turned : goal.returns-in-Sat-clause-turned
-returns-in-Sat-clause-turned g c start w =
+pub returns-in-Unsat-clause-held : goal.returns-in-Unsat-clause-held
+returns-in-Unsat-clause-held g c start id w e =
+    let f = c.args.faults.now.f.now in
+    let leaf = leaf_in c.args.faults.now in
+    let on = saying_on c.args.self.now c.args.faults.now c.args.bads.now (given_before c.args.part.now) start c.args.log.now w
+    c.say.new.log c.say.ensures.said in
+    let r = c.solve.ensures.unsat c.in-Unsat.id (c.in_ok-id.was ∙ ap Ok c.in-Unsat.is) in
+    let faults = c.args.faults.now.group.now in
+    let active = c.in_ok-active.active.items in
+    let mine = subst (λ ls. IsRefutedUnder c.say.new.log c.solve.new.log ls c.in-Unsat.id)
+    (assumed_are c.deref.result.now active c.deref.ensures.value) r in
+    let groups = faults_groups f c.args.self.now leaf start on.first faults on.group_made c.say.new.log on.said in
+    let held = held_by f leaf (gate_groups c.args.self.now) active (variable_of faults.selector) start.entries c.say.new.log
+    c.solve.new.log c.in-Unsat.id groups
+    (g.met.O.Oracle.searched c.solve.new.self c.solve.new.log c.solve.ensures.fit)
+    (λ h inside. (active_made c.args.self.now faults c.args.are_all active c.in_ok-active.ensures c.say.new.log.entries
+    groups.gates_made on.may.made h inside).positive)
+    (active_cases c.args.self.now faults c.args.are_all active c.in_ok-active.ensures) mine in
+    let same : c.in-Unsat.id ≡ id = cc in
+    subst (λ i. IsHeldBy f leaf start.entries c.solve.new.log.entries i) same held
+
+pub returns-in_err-id-clause-limit : goal.returns-in_err-id-clause-limit
+returns-in_err-id-clause-limit g c e start w =
+    let active = c.in_ok-active.active.items in (
+      active,
+      active_of_turn c.args.self.now c.args.faults.now.group.now c.args.are_all active c.in_ok-active.ensures start.entries
+          w.group_made.unnamed,
+      subst (IsAtLimit c.solve.new.log) (assumed_are c.deref.result.now active c.deref.ensures.value)
+          (c.solve.ensures.limit (search arith)),
+    )
+
+pub returns-clause-turned : goal.returns-clause-turned
+returns-clause-turned g c start w =
     let f = c.args.faults.now.f.now in
     let on = saying_on c.args.self.now c.args.faults.now c.args.bads.now (given_before c.args.part.now) start c.args.log.now w
     c.say.new.log c.say.ensures.said in
@@ -62,36 +101,16 @@ returns-in-Sat-clause-turned g c start w =
     learned_turned f c.args.self.now start c.say.new.log c.solve.new.log turned
     (c.solve.ensures.sat (c.in_ok-id.was ∙ ap Ok c.in-Sat.is)).0
 
-pub returns-in-Sat-clause-saying : goal.returns-in-Sat-clause-saying
-returns-in-Sat-clause-saying g c start w e =
+pub returns-clause-saying : goal.returns-clause-saying
+returns-clause-saying g c start w e =
     let more = saying_more c.args.self.now c.args.faults.now c.args.bads.now (given_before c.args.part.now) start c.args.log.now w
     (given_after c.args.part.now) c.say.new.log c.say.ensures.said c.in_ok-say.ensures.given in
     saying_on c.args.self.now c.args.faults.now c.args.bads.now (given_after c.args.part.now) start c.say.new.log more
     c.solve.new.log (learned_said c.args.faults.now c.say.new.log c.solve.new.log more.may
     (c.solve.ensures.sat (c.in_ok-id.was ∙ ap Ok c.in-Sat.is)).0)
 
-pub returns-in-Unsat-clause-held : goal.returns-in-Unsat-clause-held
-returns-in-Unsat-clause-held g c start id w e =
-    let f = c.args.faults.now.f.now in
-    let leaf = leaf_in c.args.faults.now in
-    let on = saying_on c.args.self.now c.args.faults.now c.args.bads.now (given_before c.args.part.now) start c.args.log.now w
-    c.say.new.log c.say.ensures.said in
-    let r = c.solve.ensures.unsat c.in-Unsat.id (c.in_ok-id.was ∙ ap Ok c.in-Unsat.is) in
-    let gates = c.args.self.now.gates.group.selector in
-    let faults = c.args.faults.now.group.now.selector in
-    let switches : gates ∷ faults ∷ [] ≡ positive (variable_of gates) ∷ positive (variable_of faults) ∷ [] =
-    ap (λ l. l ∷ faults ∷ []) (as_positive gates w.group_made.before.gates.made.positive) ∙ ap
-    (λ l. positive (variable_of gates) ∷ l ∷ []) (as_positive faults on.may.made.positive) in
-    let mine = subst (λ ls. IsRefutedUnder c.say.new.log c.solve.new.log ls c.in-Unsat.id) switches r in
-    let two = faults_two_groups f c.args.self.now leaf start on.first c.args.faults.now.group.now on.group_made
-    c.say.new.log on.said in
-    let held = held_by f leaf (variable_of gates) (variable_of faults) start.entries c.say.new.log c.solve.new.log
-    c.in-Unsat.id two (g.met.O.Oracle.searched c.solve.new.self c.solve.new.log c.solve.ensures.fit) mine in
-    let same : c.in-Unsat.id ≡ id = cc in
-    subst (λ i. IsHeldBy f leaf start.entries c.solve.new.log.entries i) same held
-
-pub returns-in-Sat-clause-failing : goal.returns-in-Sat-clause-failing
-returns-in-Sat-clause-failing g c start w e whole =
+pub returns-clause-failing : goal.returns-clause-failing
+returns-clause-failing g c start w e whole all =
     let f = c.args.faults.now.f.now in
     let leaf = leaf_in c.args.faults.now in
     let more = saying_more c.args.self.now c.args.faults.now c.args.bads.now (given_before c.args.part.now) start c.args.log.now w
@@ -100,13 +119,16 @@ returns-in-Sat-clause-failing g c start w e whole =
     more true in
     let found = c.solve.ensures.sat (c.in_ok-id.was ∙ ap Ok c.in-Sat.is) in
     let values = g.O.Oracle.values c.solve.new.self in
-    let gates = c.args.self.now.gates.group.selector in
-    let faults = c.args.faults.now.group.now.selector in
-    let two = faults_two_groups f c.args.self.now leaf start more.first c.args.faults.now.group.now more.group_made
+    let active = c.in_ok-active.active.items in
+    let two = faults_groups f c.args.self.now leaf start more.first c.args.faults.now.group.now more.group_made
     c.say.new.log more.said in
-    let on = switched_on values (clause_at c.solve.new.log.entries) gates faults
-    w.group_made.before.gates.made.positive more.may.made.positive found.1 in
+    let model = subst (IsModelUnder values (clause_at c.solve.new.log.entries))
+    (assumed_are c.deref.result.now active c.deref.ensures.value) found.1 in
     are_failing f c.args.self.now.gates leaf (selector_in c.args.faults.now) values start.entries
-    c.say.new.log c.solve.new.log found.0 found.1.clauses on.0 on.1 turned.checker.gates w.group_made.ready two.names
+    c.say.new.log c.solve.new.log found.0 found.1.clauses
+    (λ h inside. switched_on values (clause_at c.solve.new.log.entries) active model h
+    (c.in_ok-active.ensures.all all h inside) (turned.checker.gates.made h inside).positive)
+    (switched_on values (clause_at c.solve.new.log.entries) active model c.args.faults.now.group.now
+    c.in_ok-active.ensures.with_faults more.may.made.positive) turned.checker.gates w.group_made.ready two.names
     (all_given f (selector_in c.args.faults.now) leaf c.args.bads.now (given_after c.args.part.now) c.say.new.log.entries
     (λ j. ap (λ b. not b || bit_of c.args.part.now.marks.now j) whole) more.named c.in_ok-say.ensures.given)

@@ -1,139 +1,123 @@
-use Rattle.std.proofs.Common.{◌≡◌, length, map, refl, sym, ◌∙◌, ap, subst, Ok, arith}
-use Rattle.dq_lits.specs.Row.{bit_of}
-use Rattle.aig_graph.specs.Graph.{node_value}
-use Rattle.dq_lits.specs.Literal.{variable_of}
-use Rattle.circuit_cnf.specs.Failing.{HasFalseClause}
-use Rattle.circuit_cnf.specs.Faults.{leaf_of}
-use Rattle.circuit_cnf.specs.Saying.{leaf_in}
-use Rattle.circuit_cnf.specs.Turning.{AreFailing, HasTurned, IsHeldBy, is_silent_search}
-use Rattle.circuit_cnf.proofs.LeafValues.{falsified}
-use Rattle.circuit_cnf.proofs.TurnAnswers.{inputs_count, inputs_named}
+use Rattle.std.proofs.Common.{◌≡◌, false, refl, ◌∙◌, ap, subst, Ok, Some, arith}
+use Rattle.circuit_cnf.specs.declared.fault_clauses.ClauseSelection.{ClauseSelection}
+use Rattle.circuit_cnf.specs.declared.turns.Turn.TheVariants.{Holds, Fails}
+use Rattle.circuit_cnf.specs.Turning.{HasTurned, is_silent_attempt}
+use Rattle.circuit_cnf.specs.Saying.{given_after, given_before}
+use Rattle.circuit_cnf.proofs.TurnParts.{saying_fewer}
 use Rattle.circuit_cnf.proofs.TurnStages.{quiet_turned}
 use Rattle.circuit_cnf.proofs.checkers.Checker.look_twice.Goals as goal
 
-pub look-requires-clause-saying : goal.look-requires-clause-saying
-look-requires-clause-saying g c = (c.requires.saying.0, c.requires.saying.1)
-
-pub returns-in_err-id-clause-turned : goal.returns-in_err-id-clause-turned
-returns-in_err-id-clause-turned g c start w =
+pub returns-in_err-turn-clause-turned : goal.returns-in_err-turn-clause-turned
+returns-in_err-turn-clause-turned g c start w =
     let f = c.args.faults.now.f.now in
-    quiet_turned f c.args.self.now c.args.self.now _ start c.look.new.log
-    (subst (λ r. HasTurned f c.args.self.now c.args.self.now (is_silent_search r) start c.look.new.log)
-    c.in_err-id.was (c.look.ensures.turned start w))
+    quiet_turned f c.args.self.now c.args.self.now _ start c.attempt.new.log
+    (subst (λ r. HasTurned f c.args.self.now c.args.self.now (is_silent_attempt r) start c.attempt.new.log)
+    c.in_err-turn.was (c.attempt.ensures.turned start w))
 
 pub returns-in-Some-clause-turned : goal.returns-in-Some-clause-turned
 returns-in-Some-clause-turned g c start w =
     let f = c.args.faults.now.f.now in
-    subst (λ r. HasTurned f c.args.self.now c.args.self.now (is_silent_search r) start c.look.new.log)
-    (c.in_ok-id.was ∙ ap Ok c.in-Some.is) (c.look.ensures.turned start w)
+    subst (λ r. HasTurned f c.args.self.now c.args.self.now (is_silent_attempt r) start c.attempt.new.log)
+    (c.in_ok-turn.was ∙ ap Ok c.in-Some.is) (c.attempt.ensures.turned start w)
 
-pub returns-in-Some-clause-held : goal.returns-in-Some-clause-held
-returns-in-Some-clause-held g c start id w e = search arith
+pub returns-in-Some-clause-fails : goal.returns-in-Some-clause-fails
+returns-in-Some-clause-fails g c row values j e =
+    let same : c.in-Some.turn ≡ Fails row values j = cc in
+    c.attempt.ensures.fails row values j (c.in_ok-turn.was ∙ ap Ok (c.in-Some.is ∙ ap Some same))
 
-pub failure-requires-clause-made : goal.failure-requires-clause-made
-failure-requires-clause-made g c k d below =
+pub attempt-requires-2-clause-saying : goal.attempt-requires-2-clause-saying
+attempt-requires-2-clause-saying g c = (
+  c.requires.saying.0,
+  c.attempt.ensures.saying c.requires.saying.0 c.requires.saying.1 (c.in_ok-turn.was ∙ ap Ok c.in_default.is),
+  c.requires.saying.2,
+)
+
+pub returns-in_err-turn-2-clause-turned : goal.returns-in_err-turn-2-clause-turned
+returns-in_err-turn-2-clause-turned g c start w =
     let f = c.args.faults.now.f.now in
-    let inputs = c.args.self.now.inputs.items in
-    let turned = c.look.ensures.turned c.requires.saying.0 c.requires.saying.1 in
-    let are = turned.checker.inputs in
-    g.met.O.Oracle.made c.look.new.oracle c.look.new.log _ c.look.ensures.fit
-    (inputs_named c.look.new.log.entries f.universals inputs are
-    (inputs_count c.look.new.log.entries f.universals inputs are) k d below)
+    let more = c.attempt.ensures.saying start w (c.in_ok-turn.was ∙ ap Ok c.in_default.is) in
+    quiet_turned f c.args.self.now c.args.self.now _ start c.attempt-2.new.log
+    (subst (λ r. HasTurned f c.args.self.now c.args.self.now (is_silent_attempt r) start c.attempt-2.new.log)
+    c.in_err-turn-2.was (c.attempt-2.ensures.turned start more))
 
-pub failure-requires-clause-input_count : goal.failure-requires-clause-input_count
-failure-requires-clause-input_count g c = search (arith, inputs_count)
-
-pub returns-in_err-turn-in-None-clause-turned : goal.returns-in_err-turn-in-None-clause-turned
-returns-in_err-turn-in-None-clause-turned g c start w =
-    let f = c.args.faults.now.f.now in
-    quiet_turned f c.args.self.now c.args.self.now _ start c.look.new.log
-    (subst (λ r. HasTurned f c.args.self.now c.args.self.now (is_silent_search r) start c.look.new.log)
-    (c.in_ok-id.was ∙ ap Ok c.in-None.is) (c.look.ensures.turned start w))
+pub returns-in_err-turn-2-clause-limit : goal.returns-in_err-turn-2-clause-limit
+returns-in_err-turn-2-clause-limit g c e start w =
+    let more = c.attempt.ensures.saying start w (c.in_ok-turn.was ∙ ap Ok c.in_default.is) in
+    c.attempt-2.ensures.limit (search arith) start more
 
 pub returns-in-Some-2-clause-turned : goal.returns-in-Some-2-clause-turned
 returns-in-Some-2-clause-turned g c start w =
     let f = c.args.faults.now.f.now in
-    quiet_turned f c.args.self.now c.args.self.now _ start c.look.new.log
-    (subst (λ r. HasTurned f c.args.self.now c.args.self.now (is_silent_search r) start c.look.new.log)
-    (c.in_ok-id.was ∙ ap Ok c.in-None.is) (c.look.ensures.turned start w))
+    let more = c.attempt.ensures.saying start w (c.in_ok-turn.was ∙ ap Ok c.in_default.is) in
+    subst (λ r. HasTurned f c.args.self.now c.args.self.now (is_silent_attempt r) start c.attempt-2.new.log)
+    (c.in_ok-turn-2.was ∙ ap Ok c.in-Some-2.is) (c.attempt-2.ensures.turned start more)
 
-pub look-requires-2-clause-saying : goal.look-requires-2-clause-saying
-look-requires-2-clause-saying g c = (
-  c.requires.saying.0,
-  c.look.ensures.saying c.requires.saying.0 c.requires.saying.1 (c.in_ok-id.was ∙ ap Ok c.in-None.is),
-)
+pub returns-in-Some-2-clause-held : goal.returns-in-Some-2-clause-held
+returns-in-Some-2-clause-held g c start id w e =
+    let more = c.attempt.ensures.saying start w (c.in_ok-turn.was ∙ ap Ok c.in_default.is) in
+    let same : c.in-Some-2.turn ≡ Holds id = cc in
+    c.attempt-2.ensures.held start id more (c.in_ok-turn-2.was ∙ ap Ok (c.in-Some-2.is ∙ ap Some same))
 
-pub returns-in_err-id-2-clause-turned : goal.returns-in_err-id-2-clause-turned
-returns-in_err-id-2-clause-turned g c start w =
-    let f = c.args.faults.now.f.now in
-    let more = c.look.ensures.saying start w (c.in_ok-id.was ∙ ap Ok c.in-None.is) in
-    quiet_turned f c.args.self.now c.args.self.now _ start c.look-2.new.log
-    (subst (λ r. HasTurned f c.args.self.now c.args.self.now (is_silent_search r) start c.look-2.new.log)
-    c.in_err-id-2.was (c.look-2.ensures.turned start more))
+pub returns-in-Some-2-clause-fails : goal.returns-in-Some-2-clause-fails
+returns-in-Some-2-clause-fails g c row values j e =
+    let same : c.in-Some-2.turn ≡ Fails row values j = cc in
+    c.attempt-2.ensures.fails row values j (c.in_ok-turn-2.was ∙ ap Ok (c.in-Some-2.is ∙ ap Some same))
 
-pub returns-in-Some-3-clause-turned : goal.returns-in-Some-3-clause-turned
-returns-in-Some-3-clause-turned g c start w =
-    let f = c.args.faults.now.f.now in
-    let more = c.look.ensures.saying start w (c.in_ok-id.was ∙ ap Ok c.in-None.is) in
-    subst (λ r. HasTurned f c.args.self.now c.args.self.now (is_silent_search r) start c.look-2.new.log)
-    (c.in_ok-id-2.was ∙ ap Ok c.in-Some-3.is) (c.look-2.ensures.turned start more)
-
-pub returns-in-Some-3-clause-held : goal.returns-in-Some-3-clause-held
-returns-in-Some-3-clause-held g c start id w e =
-    let f = c.args.faults.now.f.now in
-    let more = c.look.ensures.saying start w (c.in_ok-id.was ∙ ap Ok c.in-None.is) in
-    let same : c.in-Some-3.id ≡ id = cc in
-    subst (λ i. IsHeldBy f (leaf_in c.args.faults.now) start.entries c.look-2.new.log.entries i) same
-    (c.look-2.ensures.held start c.in-Some-3.id more (c.in_ok-id-2.was ∙ ap Ok c.in-Some-3.is))
-
-pub failure-requires-in-None-2-clause-made : goal.failure-requires-in-None-2-clause-made
-failure-requires-in-None-2-clause-made g c k d below =
-    let f = c.args.faults.now.f.now in
-    let inputs = c.args.self.now.inputs.items in
-    let more = c.look.ensures.saying c.requires.saying.0 c.requires.saying.1
-    (c.in_ok-id.was ∙ ap Ok c.in-None.is) in
-    let are = (c.look-2.ensures.turned c.requires.saying.0 more).checker.inputs in
-    g.met.O.Oracle.made c.look-2.new.oracle c.look-2.new.log _ c.look-2.ensures.fit
-    (inputs_named c.look-2.new.log.entries f.universals inputs are
-    (inputs_count c.look-2.new.log.entries f.universals inputs are) k d below)
-
-pub failure-requires-in-None-2-clause-input_count : goal.failure-requires-in-None-2-clause-input_count
-failure-requires-in-None-2-clause-input_count g c = search (arith, inputs_count)
-
-pub returns-in_err-turn-in-None-2-clause-turned : goal.returns-in_err-turn-in-None-2-clause-turned
-returns-in_err-turn-in-None-2-clause-turned g c start w =
-    let f = c.args.faults.now.f.now in
-    let more = c.look.ensures.saying start w (c.in_ok-id.was ∙ ap Ok c.in-None.is) in
-    quiet_turned f c.args.self.now c.args.self.now _ start c.look-2.new.log
-    (subst (λ r. HasTurned f c.args.self.now c.args.self.now (is_silent_search r) start c.look-2.new.log)
-    (c.in_ok-id-2.was ∙ ap Ok c.in-None-2.is) (c.look-2.ensures.turned start more))
-
-pub returns-in-Some-4-clause-turned : goal.returns-in-Some-4-clause-turned
-returns-in-Some-4-clause-turned g c start w =
-    let f = c.args.faults.now.f.now in
-    let more = c.look.ensures.saying start w (c.in_ok-id.was ∙ ap Ok c.in-None.is) in
-    quiet_turned f c.args.self.now c.args.self.now _ start c.look-2.new.log
-    (subst (λ r. HasTurned f c.args.self.now c.args.self.now (is_silent_search r) start c.look-2.new.log)
-    (c.in_ok-id-2.was ∙ ap Ok c.in-None-2.is) (c.look-2.ensures.turned start more))
-
-pub unreachable-requires : goal.unreachable-requires
-unreachable-requires g c =
-    let f = c.args.faults.now.f.now in
+pub attempt-requires-3-clause-saying : goal.attempt-requires-3-clause-saying
+attempt-requires-3-clause-saying g c =
     let start = c.requires.saying.0 in
-    let w = c.requires.saying.1 in
-    let inputs = c.args.self.now.inputs.items in
-    let values = g.O.Oracle.values c.look-2.new.oracle in
-    let are = w.group_made.before.inputs in
-    let more = c.look.ensures.saying start w (c.in_ok-id.was ∙ ap Ok c.in-None.is) in
-    let found = c.look-2.ensures.failing start more (c.in_ok-id-2.was ∙ ap Ok c.in-None-2.is) refl in
-    let failing = subst (λ xs. AreFailing f (leaf_of f xs c.args.faults.now.outputs.now) start.entries values)
-    c.requires.same_inputs found in
-    let nodes : length c.args.circuit.now.outputs.now ≡ length f.existentials =
-    c.args.circuit.now.a_node_an_existential ∙ ap (λ h. length h.existentials) (sym c.requires.same_formula) in
-    let false_there = falsified f c.args.circuit.now.graph.now start.entries inputs values w.group_made.logged are
-    (inputs_count start.entries f.universals inputs are) failing.gates c.args.circuit.now.outputs.now
-    c.args.faults.now.outputs.now c.requires.saying.2 nodes failing in
-    c.failure-in-None-2.ensures.none (c.in_ok-turn-in-None-2.was ∙ ap Ok c.in-None-3.is)
-    (subst (λ h. HasFalseClause h (map (λ l. values (variable_of l)) inputs)
-    (map (node_value c.args.circuit.now.graph.now (bit_of (map (λ l. values (variable_of l)) inputs)))
-    c.args.circuit.now.outputs.now)) c.requires.same_formula false_there)
+    let more = c.attempt.ensures.saying start c.requires.saying.1 (c.in_ok-turn.was ∙ ap Ok c.in_default.is) in
+    let others : ClauseSelection = record { marks = c.args.first; are_set = false } in (
+      start,
+      saying_fewer c.args.self.now c.args.faults.now c.args.bads.now (given_before others) (given_after others) start
+          c.attempt-2.new.log (λ j is. refl)
+          (c.attempt-2.ensures.saying start more (c.in_ok-turn-2.was ∙ ap Ok c.in_default-2.is)),
+      c.requires.saying.2,
+    )
+
+pub returns-in_err-turn-3-clause-turned : goal.returns-in_err-turn-3-clause-turned
+returns-in_err-turn-3-clause-turned g c start w =
+    let f = c.args.faults.now.f.now in
+    let others : ClauseSelection = record { marks = c.args.first; are_set = false } in
+    let more = c.attempt.ensures.saying start w (c.in_ok-turn.was ∙ ap Ok c.in_default.is) in
+    let most = saying_fewer c.args.self.now c.args.faults.now c.args.bads.now (given_before others) (given_after others)
+    start c.attempt-2.new.log (λ j is. refl)
+    (c.attempt-2.ensures.saying start more (c.in_ok-turn-2.was ∙ ap Ok c.in_default-2.is)) in
+    quiet_turned f c.args.self.now c.args.self.now _ start c.attempt-3.new.log
+    (subst (λ r. HasTurned f c.args.self.now c.args.self.now (is_silent_attempt r) start c.attempt-3.new.log)
+    c.in_err-turn-3.was (c.attempt-3.ensures.turned start most))
+
+pub returns-in_err-turn-3-clause-limit : goal.returns-in_err-turn-3-clause-limit
+returns-in_err-turn-3-clause-limit g c e start w =
+    let others : ClauseSelection = record { marks = c.args.first; are_set = false } in
+    let more = c.attempt.ensures.saying start w (c.in_ok-turn.was ∙ ap Ok c.in_default.is) in
+    let most = saying_fewer c.args.self.now c.args.faults.now c.args.bads.now (given_before others) (given_after others)
+    start c.attempt-2.new.log (λ j is. refl)
+    (c.attempt-2.ensures.saying start more (c.in_ok-turn-2.was ∙ ap Ok c.in_default-2.is)) in
+    c.attempt-3.ensures.limit (search arith) start most
+
+pub returns-clause-turned : goal.returns-clause-turned
+returns-clause-turned g c start w =
+    let f = c.args.faults.now.f.now in
+    let others : ClauseSelection = record { marks = c.args.first; are_set = false } in
+    let more = c.attempt.ensures.saying start w (c.in_ok-turn.was ∙ ap Ok c.in_default.is) in
+    let most = saying_fewer c.args.self.now c.args.faults.now c.args.bads.now (given_before others) (given_after others)
+    start c.attempt-2.new.log (λ j is. refl)
+    (c.attempt-2.ensures.saying start more (c.in_ok-turn-2.was ∙ ap Ok c.in_default-2.is)) in
+    subst (λ r. HasTurned f c.args.self.now c.args.self.now (is_silent_attempt r) start c.attempt-3.new.log)
+    (c.in_ok-turn-3.was ∙ ap Ok c.in-Some-3.is) (c.attempt-3.ensures.turned start most)
+
+pub returns-clause-held : goal.returns-clause-held
+returns-clause-held g c start id w e =
+    let others : ClauseSelection = record { marks = c.args.first; are_set = false } in
+    let more = c.attempt.ensures.saying start w (c.in_ok-turn.was ∙ ap Ok c.in_default.is) in
+    let most = saying_fewer c.args.self.now c.args.faults.now c.args.bads.now (given_before others) (given_after others)
+    start c.attempt-2.new.log (λ j is. refl)
+    (c.attempt-2.ensures.saying start more (c.in_ok-turn-2.was ∙ ap Ok c.in_default-2.is)) in
+    let same : c.in-Some-3.turn ≡ Holds id = cc in
+    c.attempt-3.ensures.held start id most (c.in_ok-turn-3.was ∙ ap Ok (c.in-Some-3.is ∙ ap Some same))
+
+pub returns-clause-fails : goal.returns-clause-fails
+returns-clause-fails g c row values j e =
+    let same : c.in-Some-3.turn ≡ Fails row values j = cc in
+    c.attempt-3.ensures.fails row values j (c.in_ok-turn-3.was ∙ ap Ok (c.in-Some-3.is ∙ ap Some same))

@@ -23,11 +23,13 @@ returns-clause-made g c =
       alloc = c.args.alloc;
       tenant = c.in_ok-tenant.tenant;
       gates =
-          record { group = c.in_ok-group.group; variables = c.new.result; unfinished = None };
+          record { group = c.in_ok-group.group; earlier = c.new.result; variables = c.new-2.result; unfinished = None };
       inputs =
           c.in_ok-inputs.inputs;
+      batched = 0;
+      live = c.new-3.result;
       last_false = 0;
     })
     c.in_ok-inputs.ensures.none c.in_ok-inputs.ensures.inputs c.in_ok-group.ensures.made c.in_ok-group.ensures.unnamed
-    c.in_ok-group.ensures.ok c.new.ensures.empty refl (g.met.O.Oracle.searched c.name_inputs.new.oracle
+    c.in_ok-group.ensures.ok c.new-2.ensures.empty c.new.ensures.items refl (g.met.O.Oracle.searched c.name_inputs.new.oracle
     c.name_inputs.new.log c.name_inputs.ensures.fit).grouped

@@ -1,4 +1,4 @@
-use Rattle.std.proofs.Common.{length, map, sym, ◌∙◌, ap, subst, arith}
+use Rattle.std.proofs.Common.{length, map, refl, sym, ◌∙◌, ap, subst, arith}
 use Rattle.std.specs.List.{All}
 use Rattle.dq_lits.specs.Literal.{variable_of}
 use Rattle.aig_graph.specs.Graph.{IsEarlierNode}
@@ -46,13 +46,12 @@ returns-clause-leaves g c =
     c.in_ok-leaves.leaves.items
     (marked_universals c.args.circuit.now.f.now graph nodes c.cones.new.marks c.every_graph_is_lawful.ensures
     c.requires.nodes c.requires.read_universals c.cones.ensures.marked)
-    (cone_checker c.args.circuit.now.f.now c.args.self.now c.cone_literals.new.gates
-    (variable_of c.finish.new.self.group.selector) c.args.log.now c.finish.new.log c.cone_literals.new.log
-    c.requires.checker c.finish.ensures.names
-    c.cone_literals.ensures.grew c.cone_literals.ensures.bads c.cone_literals.ensures.known).inputs
+    (cone_checker c.args.circuit.now.f.now c.args.self.now (record c.args.self.now { gates = c.cone_literals.new.gates })
+    (variable_of c.args.self.now.gates.group.selector) c.args.log.now c.cone_literals.new.log
+    c.requires.checker refl c.cone_literals.ensures.grew c.cone_literals.ensures.bads c.cone_literals.ensures.known).inputs
     c.in_ok-literals.ensures.leaves c.cones.ensures.marked earlier
-    (c.in_ok-leaves.ensures ∙ ap (λ xs. map (leaf_by xs c.deref-3.result.now) nodes) c.deref-2.ensures.value ∙ ap
-    (λ ls. map (leaf_by inputs ls) nodes) c.deref-3.ensures.value)
+    (c.in_ok-leaves.ensures ∙ ap (λ xs. map (leaf_by xs c.deref-4.result.now) nodes) c.deref-3.ensures.value ∙ ap
+    (λ ls. map (leaf_by inputs ls) nodes) c.deref-4.ensures.value)
 
 pub invariant_of-cone-clause-universals : goal.invariant_of-cone-clause-universals
 invariant_of-cone-clause-universals g c =
@@ -77,6 +76,9 @@ node_leaves-requires g c =
     (sym (inputs_count c.args.log.now.entries c.args.circuit.now.f.now.universals inputs
     c.requires.checker.inputs)) over in
     let second = subst (λ ls. All (IsEarlierNode (length ls) (length literals)) nodes)
-    (sym c.deref-2.ensures.value) first in
-    subst (λ ls. All (IsEarlierNode (length c.deref-2.result.now) (length ls)) nodes)
-    (sym c.deref-3.ensures.value) second
+    (sym c.deref-3.ensures.value) first in
+    subst (λ ls. All (IsEarlierNode (length c.deref-3.result.now) (length ls)) nodes)
+    (sym c.deref-4.ensures.value) second
+
+pub returns-in_err-mark_live-clause-checker : goal.returns-in_err-mark_live-clause-checker
+returns-in_err-mark_live-clause-checker g c = search (arith, cone_checker)

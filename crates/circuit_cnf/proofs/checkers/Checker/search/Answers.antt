@@ -64,3 +64,15 @@ returns-clause-held g c id e =
     (begun_saying c.args.circuit.now.graph.now c.args.circuit.now.outputs.now _ c.args.self.now c.args.log.now
     c.group.new.log m c.deref.ensures.value c.args.circuit.now.a_node_an_existential c.requires.leaves
     c.requires.formula.bound c.deref-2.result.now c.name_bads.new.log named.grew named.faults named.alone are) e)
+
+pub returns-clause-limit : goal.returns-clause-limit
+returns-clause-limit g c e =
+    let m : IsGroupMade c.args.circuit.now.f.now c.args.self.now c.args.log.now c.group.new.log c.in_ok-group.group =
+    search arith in
+    let named = c.name_bads.ensures in
+    let are = subst (λ xs. AreBads c.args.circuit.now.f.now (variable_of c.in_ok-group.group.selector) xs
+    c.name_bads.new.log.entries) (sym c.deref-2.ensures.value) c.in_ok-bads.ensures.named in
+    c.look_twice.ensures.limit e c.args.log.now
+    (begun_saying c.args.circuit.now.graph.now c.args.circuit.now.outputs.now _ c.args.self.now c.args.log.now
+    c.group.new.log m c.deref.ensures.value c.args.circuit.now.a_node_an_existential c.requires.leaves
+    c.requires.formula.bound c.deref-2.result.now c.name_bads.new.log named.grew named.faults named.alone are)

@@ -17,6 +17,6 @@ returns-clause-known g c =
     let is = pair_is c.code.result c.code-2.result gate.left gate.right c.code.ensures c.code-2.ensures in
     let updates = subst (λ (p : ℕ × ℕ). (q : ℕ × ℕ) → get pair_cmp c.insert.new.self q ≡ cond (is_eq (pair_cmp p q))
     (Some gate.variable) (get pair_cmp gates.variables q)) is c.in_ok-insert.ensures.updates.0 in
-    finished gates (record { group = gates.group; variables = c.insert.new.self; unfinished = None })
+    finished gates (record { group = gates.group; earlier = gates.earlier; variables = c.insert.new.self; unfinished = None })
     c.give_parts.new.log.entries gate c.give_parts.ensures.known c.in_ok-give_parts.ensures.last refl refl
     refl updates

@@ -43,7 +43,7 @@ returns-in_err-id-clause-stopped g c =
       limit = λ is.
           let stop : c.in_err-id.field-0.0 ≡ Limit = search rules in
           by_lemma s.f.now c.turn.new.log (some_limit c.turn.new.log
-          (c.in_err-id.ensures.limit (ap (λ e. Err e) stop)).1);
+          (c.in_err-id.ensures.limit (ap (λ e. Err e) stop)).2);
       rows = λ is. left.rows ∙ c.requires.search.here.rows;
     }
 
