@@ -1,12 +1,9 @@
 -- The formula of now, where a command changes no clause in force.
-use Rattle.std.proofs.Common.{◌≡◌, ℕ, zero, suc, ◌+◌, List, [], ◌∷◌, map, take, length, Option, Some, None, IfSome, refl, sym, ◌∙◌, ap, arith}
+use Rattle.std.proofs.Common.{◌≡◌, ℕ, zero, suc, List, [], ◌∷◌, take, length, Option, Some, None, IfSome, refl, sym, ◌∙◌, ap, arith}
 use Rattle.std.proofs.lemmas.List.{length-append}
 use Rattle.dq_lits.specs.Formula.{Dqbf}
-use Rattle.hint_log.specs.Live.{formula_of}
 use Rattle.script_text.specs.Commands.{ScriptCommand, push, add, pop, solve}
-use Rattle.dq_session.specs.Databases.{DatabaseState, all_of, now_of}
-use Rattle.dq_session.specs.Changes.{newest}
-use Rattle.dq_session.specs.declared.live.Live.{Live}
+use Rattle.dq_session.specs.Databases.{DatabaseState, now_of}
 use Rattle.session_runs.specs.Following.{database_behind}
 
 whole-taken : {X : Type 0} (n : ℕ) (xs : List X) → length (take n xs) ≡ length xs → take n xs ≡ xs
@@ -18,13 +15,8 @@ whole-taken (suc n) (x ∷ xs) same = ap (λ ys. x ∷ ys) (whole-taken n xs (om
 now-stays : (b : DatabaseState) (command : ScriptCommand) → length (database_behind b command).live ≡ length b.live
     → now_of b ≡ now_of (database_behind b command)
 now-stays b push same = refl
-now-stays b (add clause) same = absurd (by (length-append b.live _) same)
-  where
-    by : {n m : ℕ} → n ≡ m + 1 → n ≡ m → ⊥
-    by longer same = omega (arith, longer, same)
-now-stays b pop same =
-    sym (ap (λ (ls : List Live). formula_of (all_of b) (map (λ l. l.clause) ls))
-    (whole-taken (newest b).start b.live same))
+now-stays b (add clause) same = search (arith, length-append)
+now-stays b pop same = search (arith, whole-taken)
 now-stays b solve same = refl
 
 kept : (o : Option Dqbf) (f g : Dqbf) → f ≡ g → IfSome o (λ h. h ≡ f) → IfSome o (λ h. h ≡ g)

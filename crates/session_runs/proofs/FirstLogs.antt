@@ -1,5 +1,5 @@
 -- A log before the first search.
-use Rattle.std.proofs.Common.{◌≡◌, ◌∷◌, [], List, true, None, refl, sym, subst}
+use Rattle.std.proofs.Common.{◌≡◌, ◌∷◌, [], List, true, None, refl, sym, subst, arith}
 use Rattle.dq_lits.specs.Formula.{Dqbf}
 use Rattle.hint_log.specs.Entries.{Entry, Named, Given, Learned, Answer, Round, Begun, ProofLog, beginnings_of}
 use Rattle.hint_log.specs.Growth.{Each, Grew}
@@ -88,13 +88,4 @@ none-begun-yet (Begun live ∷ es) none = cc
 pub first-database : (f : Dqbf) (old new : ProofLog) (b : DatabaseState) → old.entries ≡ []
     → Grew (IsAddedLive f instances [] true old.entries) old new → b ≡ begun f b.table → b.table.rows ≡ []
     → IsDatabase b new.entries → IsFirstDatabase f b new.entries
-first-database f old new b empty grew begun-is no-rows database = record {
-  begun_is = begun-is;
-  no_rows = no-rows;
-  database = database;
-  before = old;
-  after = new;
-  empty = empty;
-  entries_are = refl;
-  alone = grew;
-}
+first-database f old new b empty grew begun-is no-rows database = search arith

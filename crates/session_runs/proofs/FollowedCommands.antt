@@ -1,18 +1,18 @@
 -- A script's next command.
-use Rattle.std.proofs.Common.{◌≡◌, ℕ, ◌+◌, ◌-◌, ◌≤◌, false, List, [], ◌∷◌, ◌++◌, map, length, Some, refl, sym, ◌∙◌, ap, subst, arith, append_assoc, append-nil, replicate}
+use Rattle.std.proofs.Common.{◌≡◌, ℕ, ◌+◌, ◌-◌, ◌≤◌, false, List, [], ◌∷◌, ◌++◌, map, length, Some, refl, sym, ◌∙◌, ap, arith, append_assoc, append-nil, replicate}
 use Rattle.std.proofs.lemmas.List.{length-append, map-append}
 use Rattle.dq_lits.specs.Formula.{Dqbf}
 use Rattle.hint_log.specs.Live.{live_numbers}
 use Rattle.script_text.specs.Commands.{ScriptCommand, push, add, pop, solve}
-use Rattle.script_text.specs.Frames.{formula_in, frames_behind, formulas_from}
+use Rattle.script_text.specs.Frames.{frames_behind, formulas_from}
 use Rattle.script_text.specs.Lawful.{IsAllowed, AreAllowed}
 use Rattle.script_text.specs.Reading.{depth_behind, clauses_behind, max_clauses}
 use Rattle.dq_session.specs.Databases.{DatabaseState, live_of, now_of}
 use Rattle.dq_session.specs.Changes.{begun}
 use Rattle.expansion.specs.Table.{TableState}
-use Rattle.session_runs.specs.Following.{database_behind, MayCome, AreOpenFrames}
+use Rattle.session_runs.specs.Following.{database_behind, MayCome}
 use Rattle.session_runs.specs.Laws.{DatabasesFollow, StandsFor, FollowingDatabasesStand}
-use Rattle.session_runs.specs.Numbering.{NumberedFrame, Numbering, numbering_at_start, numbering_behind, with_number, without_newest, live_in, live_from}
+use Rattle.session_runs.specs.Numbering.{NumberedFrame, Numbering, numbering_at_start, numbering_behind, with_number, without_newest, live_from}
 use Rattle.session_runs.specs.Blocks.{Search}
 use Rattle.session_runs.specs.Followed.{is_search, IsFollowed}
 
@@ -24,12 +24,7 @@ followed-at-start f commands t allowed few = record {
   numbering = numbering_at_start f;
   frames = [];
   file = refl;
-  follows = record {
-    clauses = append-nil f.matrix;
-    frames = append-nil _;
-    opened = refl;
-    open_frames = (refl, refl);
-  };
+  follows = search (arith, append-nil);
   frames_are = tt;
   allowed = allowed;
   few = few;
@@ -64,10 +59,7 @@ few-behind : (f : Dqbf) (s : Numbering) (command : ScriptCommand) (depth : ℕ)
     → IsAllowed f depth (length s.clauses) command → length s.clauses ≤ max_clauses
     → length (numbering_behind s command).clauses ≤ max_clauses
 few-behind f s push depth may few = few
-few-behind f s (add clause) depth may few =
-    let long = length-append s.clauses (clause ∷ []) in
-    let less = may.1 in
-    omega (arith, long, less)
+few-behind f s (add clause) depth may few = search (arith, length-append)
 few-behind f s pop depth may few = few
 few-behind f s solve depth may few = few
 
@@ -79,20 +71,11 @@ module _ (stand : FollowingDatabasesStand) (f : Dqbf) (commands left : List Scri
 
   -- it may come
   pub may-come : MayCome b command
-  may-come =
-      let many : length is.numbering.clauses ≡ length b.file.matrix + length b.added =
-      ap (λ cs. length cs) (sym is.follows.clauses) ∙ length-append b.file.matrix b.added in
-      subst (λ g. IsAllowed g (length b.open_frames) (length b.file.matrix + length b.added) command) (sym is.file)
-      (subst (λ n. IsAllowed f n (length b.file.matrix + length b.added) command) (sym stands-for.depth)
-      (subst (λ n. IsAllowed f (length is.numbering.open_frames) n command) many is.allowed.0))
+  may-come = search (arith, length-append, stands-for)
 
   allowed-behind : AreAllowed f (length (numbering_behind is.numbering command).open_frames)
       (length (numbering_behind is.numbering command).clauses) left
-  allowed-behind =
-      subst (λ n. AreAllowed f n (length (numbering_behind is.numbering command).clauses) left)
-      (depth-is is.numbering command)
-      (subst (λ n. AreAllowed f (depth_behind (length is.numbering.open_frames) command) n left)
-      (count-is is.numbering command) is.allowed.1)
+  allowed-behind = search (arith, depth-is, count-is)
 
 -- a command that is no search
 file-stays : (b : DatabaseState) (command : ScriptCommand) → (database_behind b command).file ≡ b.file
@@ -141,62 +124,10 @@ followed-change follow stand f commands left b searches command change is =
 pub followed-search : FollowingDatabasesStand → (f : Dqbf) (commands left : List ScriptCommand) (b : DatabaseState)
     (searches : List Search) (s : Search) → s.formula ≡ now_of b → live_numbers s.entries ≡ Some (live_of b)
     → IsFollowed f commands (solve ∷ left) b searches → IsFollowed f commands left b (searches ++ s ∷ [])
-followed-search stand f commands left b searches s formula begun is =
-    let here = stand is.numbering is.frames b is.follows is.frames_are in
-    let formula-is : s.formula ≡ formula_in f is.frames =
-    formula ∙ here.now ∙ ap (λ g. formula_in g is.frames) is.file in
-    let live-is : live_numbers s.entries ≡ Some (live_in (length f.matrix) is.numbering.open_frames) =
-    begun ∙ ap Some (here.live ∙ ap (λ g. live_in (length g.matrix) is.numbering.open_frames) is.file) in
-    record {
-      numbering = is.numbering;
-      frames = is.frames;
-      file = is.file;
-      follows = is.follows;
-      frames_are = is.frames_are;
-      allowed = is.allowed.1;
-      few = is.few;
-      rest = is.rest;
-      formulas =
-          one-more (λ x. x.formula) searches s (formulas_from f is.frames left) (formula_in f is.frames) formula-is
-          ∙ is.formulas;
-      begun =
-          one-more (λ x. live_numbers x.entries) searches s
-          (map Some (live_from (length f.matrix) is.numbering left))
-          (Some (live_in (length f.matrix) is.numbering.open_frames)) live-is
-          ∙ is.begun;
-    }
-  where
-    one-more : {Y : Type 0} (h : Search → Y) (xs : List Search) (x : Search) (ys : List Y) (y : Y) → h x ≡ y
-        → map h (xs ++ x ∷ []) ++ ys ≡ map h xs ++ y ∷ ys
-    one-more h xs x ys y same =
-        ap (λ zs. zs ++ ys) (map-append h xs (x ∷ []))
-        ∙ append_assoc (map h xs) (h x ∷ []) ys
-        ∙ ap (λ z. map h xs ++ z ∷ ys) same
+followed-search stand f commands left b searches s formula begun is = search (arith, map-append, append_assoc)
 
 -- a database that has the same clauses, and other instances
 pub followed-later : (f : Dqbf) (commands left : List ScriptCommand) (b c : DatabaseState) (searches : List Search)
     → c ≡ record b { table = c.table; given = c.given; groups = c.groups } → length c.groups ≡ length b.groups
     → IsFollowed f commands left b searches → IsFollowed f commands left c searches
-followed-later f commands left b c searches same many is = record {
-  numbering = is.numbering;
-  frames = is.frames;
-  file = ap (λ x. x.file) same ∙ is.file;
-  follows = record {
-    clauses = ap (λ x. x.file.matrix ++ x.added) same ∙ is.follows.clauses;
-    frames = subst (λ x. Same x) (sym same) is.follows.frames;
-    opened = many ∙ is.follows.opened;
-    open_frames = subst (λ x. Open x) (sym same) is.follows.open_frames;
-  };
-  frames_are = is.frames_are;
-  allowed = is.allowed;
-  few = is.few;
-  rest = is.rest;
-  formulas = is.formulas;
-  begun = is.begun;
-}
-  where
-    Same : DatabaseState → Type 0
-    Same x = replicate (length x.file.matrix) 0 ++ x.frames ≡ is.numbering.frames
-
-    Open : DatabaseState → Type 0
-    Open x = AreOpenFrames (length x.file.matrix) is.numbering.open_frames x.open_frames x.live
+followed-later f commands left b c searches same many is = search (arith, replicate)

@@ -19,7 +19,7 @@ use Rattle.repair_loop.specs.SearchStates.{HasBegun, IsAnsweredTrue, IsAnsweredF
 use Rattle.repair_loop.specs.Stopping.{IsStoppedAtLimit}
 use Rattle.verdict_texts.specs.Forms.{plain}
 use Rattle.verdict_texts.specs.Shown.{IsShownFalse, IsTrueText, IsFalseText, unknown_by}
-use Rattle.verdict_texts.specs.Verdicts.{is_true, is_false, verdict_text}
+use Rattle.verdict_texts.specs.Verdicts.{is_false, verdict_text}
 use Rattle.session_runs.specs.Invariant.{IsFound}
 
 -- the answer can be exported, of the formula that is live
@@ -30,15 +30,7 @@ pub can-export-true : SessionAnswersCanExport → (f all : Dqbf) (frames live : 
 can-export-true law f all frames live graph nodes log id logged session named is answered =
     let a = subst (λ g. IsAnsweredTrue g graph nodes log id) is answered in
     let shown = a.found.shown in
-    let decided : IsDecidedTrue (formula_of all live) log.entries id =
-    record {
-      clause = shown.clause;
-      hints = shown.hints;
-      earlier = shown.earlier;
-      answered = shown.answered;
-      last = shown.last;
-      decides = a.decides;
-    } in
+    let decided : IsDecidedTrue (formula_of all live) log.entries id = search arith in
     subst (λ g. CanExportTrue g log.entries id) (sym is)
     ((law all frames live log.entries id logged session named).0 decided a.current)
 
@@ -67,12 +59,7 @@ rests-on-live b log id a = (
 
 module _ (b : DatabaseState) (f : Dqbf) (old new : ProofLog) (began : HasBegun (live_of b) old.entries new.entries) where
   pub true-found : (text : List ℕ) → IsTrueText f new plain text → IsFound b f old new text
-  true-found text t = record {
-    verdict = is_true t.file t.proof;
-    began = began;
-    shown = t.shown;
-    is = t.is;
-  }
+  true-found text t = search arith
 
   pub false-found : (numbers : List ℕ) (text : List ℕ) → numbers ≡ live_of b → IsFalseText f numbers new plain text
       → IsFound b f old new text
@@ -90,13 +77,7 @@ module _ (b : DatabaseState) (f : Dqbf) (old new : ProofLog) (began : HasBegun (
   unknown-found text stopped undecided fewer same = record {
     verdict = unknown_by new;
     began = began;
-    shown = record {
-      limit = stopped.reached;
-      next = stopped.next;
-      undecided = undecided;
-      rounds_are = refl;
-      steps_are = omega (arith, fewer);
-    };
+    shown = search arith;
     is = same;
   }
 
@@ -109,8 +90,4 @@ number-at (l ∷ ls) (suc i) d below = number-at ls i d (omega (arith, below))
 -- one number more
 pub one-number : (ls : List Live) (i : ℕ) (d : Live) → i < length ls
     → take i (map (λ (l : Live). l.clause) ls) ++ (get_or ls i d).clause ∷ [] ≡ take (i + 1) (map (λ (l : Live). l.clause) ls)
-one-number ls i d below =
-    let number : Live → ℕ = λ l. l.clause in
-    let long = length-map ls number in
-    sym (take_more (map number ls) i 0 (omega (arith, below, long))
-    ∙ ap (λ j. take i (map number ls) ++ j ∷ []) (number-at ls i d below))
+one-number ls i d below = search (arith, length-map, take_more, number-at)

@@ -12,9 +12,7 @@ use Rattle.hint_log.specs.Entries.{Entry, Named, Given, Learned, Answer, Round, 
 use Rattle.hint_log.specs.Growth.{Each}
 use Rattle.hint_log.specs.Live.{with_matrix, formula_of, formula_by, live_numbers, live_formula, AreNumbers}
 use Rattle.hint_log.specs.Naming.{numbered_from_one}
-use Rattle.hint_log.specs.Origins.{IsOriginsClause}
-use Rattle.hint_log.specs.ProductiveLog.{IsRightlyNamed, IsNewFailure, HasModelWith}
-use Rattle.hint_log.specs.Naming.{rows_of}
+use Rattle.hint_log.specs.ProductiveLog.{IsRightlyNamed}
 use Rattle.hint_log.specs.ProductiveSession.{MatchesLiveOrigin, RefutesNewLiveRow, FollowsLiveModel, IsSinceBeginning, frame_of, AreGroupedByFrames, DecidesLiveTrue, IsUndecidedSince}
 use Rattle.hint_log.specs.declared.names.Name.{Name}
 use Rattle.hint_log.specs.declared.names.Name.TheVariants.{Selector, Pair, Input, And, Bad, Copy as CopyOf, Term}
@@ -82,88 +80,19 @@ module _ (all : Dqbf) (more : List (List Literal)) where
 
   given-more : (es : List Entry) (o : Origin) (c : List Literal) → Each (MatchesLiveOrigin all) es
       → IsOfSearch es (Given o c) → MatchesLiveOrigin all es (Given o c) → MatchesLiveOrigin larger es (Given o c)
-  given-more es (Instance k j) c before within m = record {
-    group = m.group;
-    rest = m.rest;
-    clause_is = m.clause_is;
-    is_group = m.is_group;
-    rest_is = record {
-      row = m.rest_is.row;
-      clause = m.rest_is.clause;
-      row_is = m.rest_is.row_is;
-      clause_is = numbered-more all.matrix more j m.rest_is.clause m.rest_is.clause_is;
-      open_row = m.rest_is.open_row;
-      named = m.rest_is.named;
-    };
-    one_leaf = λ v j' i j'' i' leaf leaf' rest' is. cc;
-  }
-  given-more es (Gate v i) c before within m = record {
-    group = m.group;
-    rest = m.rest;
-    clause_is = m.clause_is;
-    is_group = m.is_group;
-    rest_is = m.rest_is;
-    one_leaf = λ v' j i' j' i'' leaf leaf' rest' is. cc;
-  }
-  given-more es (Fault j i leaf) c before within m =
-      subst (λ f. IsOriginsClause f es (Fault j i leaf) c) (same-formula es before within) m
-  given-more es (Copy side j) c before within m = record {
-    group = m.group;
-    rest = m.rest;
-    clause_is = m.clause_is;
-    is_group = m.is_group;
-    rest_is = (
-      m.rest_is.0,
-      record {
-        clause = m.rest_is.1.clause;
-        clause_is = numbered-more all.matrix more j m.rest_is.1.clause m.rest_is.1.clause_is;
-        named = m.rest_is.1.named;
-      },
-    );
-    one_leaf = λ v j' i j'' i' leaf leaf' rest' is. cc;
-  }
-  given-more es (Link v i) c before within m = record {
-    group = m.group;
-    rest = m.rest;
-    clause_is = m.clause_is;
-    is_group = m.is_group;
-    rest_is = m.rest_is;
-    one_leaf = λ v' j i' j' i'' leaf leaf' rest' is. cc;
-  }
-  given-more es (TermGate v i) c before within m = record {
-    group = m.group;
-    rest = m.rest;
-    clause_is = m.clause_is;
-    is_group = m.is_group;
-    rest_is = m.rest_is;
-    one_leaf = λ v' j i' j' i'' leaf leaf' rest' is. cc;
-  }
-  given-more es (Differ y out part) c before within m = record {
-    group = m.group;
-    rest = m.rest;
-    clause_is = m.clause_is;
-    is_group = m.is_group;
-    rest_is = (
-      m.rest_is.0,
-      record {
-        copy = m.rest_is.1.copy;
-        tail = m.rest_is.1.tail;
-        is_existential = m.rest_is.1.is_existential;
-        copy_is = m.rest_is.1.copy_is;
-        leaf_is = m.rest_is.1.leaf_is;
-        tail_is = m.rest_is.1.tail_is;
-        rest_is = m.rest_is.1.rest_is;
-      },
-    );
-    one_leaf = λ v j i j' i' leaf leaf' rest' is. cc;
-  }
+  given-more es (Instance k j) c before within m = search (arith, numbered-more)
+  given-more es (Gate v i) c before within m = search arith
+  given-more es (Fault j i leaf) c before within m = search (arith, same-formula)
+  given-more es (Copy side j) c before within m = search (arith, numbered-more)
+  given-more es (Link v i) c before within m = search arith
+  given-more es (TermGate v i) c before within m = search arith
+  given-more es (Differ y out part) c before within m = search arith
 
   pub origins-more : (es : List Entry) → Each IsOfSearch es → Each (MatchesLiveOrigin all) es
       → Each (MatchesLiveOrigin larger) es
   origins-more [] within each = tt
   origins-more (Named v n ∷ es) within each = (named-more n each.0, origins-more es within.1 each.1)
-  origins-more (Given o c ∷ es) within each =
-      (given-more es o c each.1 within.0 each.0, origins-more es within.1 each.1)
+  origins-more (Given o c ∷ es) within each = search (arith, given-more, (origins-more es within.1 each.1))
   origins-more (Learned c hints ∷ es) within each = (tt, origins-more es within.1 each.1)
   origins-more (Answer c hints ∷ es) within each = (tt, origins-more es within.1 each.1)
   origins-more (Round row values j ∷ es) within each = (tt, origins-more es within.1 each.1)
@@ -190,10 +119,8 @@ module _ (all : Dqbf) (more : List (List Literal)) where
   rows-more (Given o c ∷ es) within each rows = (tt, rows-more es within.1 each.1 rows.1)
   rows-more (Learned c hints ∷ es) within each rows = (tt, rows-more es within.1 each.1 rows.1)
   rows-more (Answer c hints ∷ es) within each rows = (tt, rows-more es within.1 each.1 rows.1)
-  rows-more (Round row values j ∷ es) within each rows = (
-    subst (λ f. IsNewFailure f es row values j) (same-formula es each.1 within.0) rows.0,
-    rows-more es within.1 each.1 rows.1,
-  )
+  rows-more (Round row values j ∷ es) within each rows =
+      search (arith, same-formula, (rows-more es within.1 each.1 rows.1))
   rows-more (Begun live ∷ es) within each rows = (tt, rows-more es within.1 each.1 rows.1)
 
   pub models-more : (es : List Entry) → Each IsOfSearch es → Each (MatchesLiveOrigin all) es
@@ -203,10 +130,8 @@ module _ (all : Dqbf) (more : List (List Literal)) where
   models-more (Given o c ∷ es) within each models = (tt, models-more es within.1 each.1 models.1)
   models-more (Learned c hints ∷ es) within each models = (tt, models-more es within.1 each.1 models.1)
   models-more (Answer c hints ∷ es) within each models = (tt, models-more es within.1 each.1 models.1)
-  models-more (Round row values j ∷ es) within each models = (
-    subst (λ f. HasModelWith f (rows_of es) row values) (same-formula es each.1 within.0) models.0,
-    models-more es within.1 each.1 models.1,
-  )
+  models-more (Round row values j ∷ es) within each models =
+      search (arith, same-formula, (models-more es within.1 each.1 models.1))
   models-more (Begun live ∷ es) within each models = (tt, models-more es within.1 each.1 models.1)
 
   module _ (frames more_frames : List ℕ) (es : List Entry) (many : length frames ≡ length all.matrix)
@@ -269,17 +194,8 @@ module _ (all : Dqbf) (more : List (List Literal)) where
   undecided-more live numbers (Begun l ∷ es) is undecided = tt
 
 pub sessions-take-clauses : SessionsTakeClauses
-sessions-take-clauses all frames more more_frames es many within session = record {
-  givens_match_origins = origins-more all more es within session.givens_match_origins;
-  lemmas_are_derived = session.lemmas_are_derived;
-  lemmas_are_new = session.lemmas_are_new;
-  rounds_refute_new_rows = rows-more all more es within session.givens_match_origins session.rounds_refute_new_rows;
-  rounds_follow_a_model = models-more all more es within session.givens_match_origins session.rounds_follow_a_model;
-  givens_are_not_repeated = session.givens_are_not_repeated;
-  groups_are_frames =
-      groups-more all more frames more_frames es many session.givens_match_origins session.groups_are_frames;
-}
+sessions-take-clauses all frames more more_frames es many within session =
+    search (arith, origins-more, rows-more, models-more, groups-more)
 
 pub undecided-takes-clauses : UndecidedTakesClauses
-undecided-takes-clauses all frames live more es session is undecided =
-    undecided-more all more live (live-are all more es session.givens_match_origins live is) es is undecided
+undecided-takes-clauses all frames live more es session is undecided = search (arith, undecided-more, live-are)

@@ -34,18 +34,14 @@ pub all-found : {X : Type 0} (h : ℕ → Option X) (ns : List ℕ) (xs : List X
 all-found h [] [] same = refl
 all-found h [] (x ∷ xs) same = cc
 all-found h (n ∷ ns) [] same = cc
-all-found h (n ∷ ns) (x ∷ xs) same =
-    ap (λ o. cons_option o (filter_map h ns)) (ap first-of same)
-    ∙ ap (λ ys. x ∷ ys) (all-found h ns xs (ap rest-of same))
+all-found h (n ∷ ns) (x ∷ xs) same = search (arith, (all-found h ns xs))
 
 pub found-still : {X : Type 0} (h k : ℕ → Option X) (ns : List ℕ) (xs : List X)
     → ((n : ℕ) (x : X) → h n ≡ Some x → k n ≡ Some x) → map h ns ≡ map Some xs → map k ns ≡ map Some xs
 found-still h k [] [] still same = refl
 found-still h k [] (x ∷ xs) still same = cc
 found-still h k (n ∷ ns) [] still same = cc
-found-still h k (n ∷ ns) (x ∷ xs) still same =
-    ap (λ o. o ∷ map k ns) (still n x (ap first-of same))
-    ∙ ap (λ os. Some x ∷ os) (found-still h k ns xs still (ap rest-of same))
+found-still h k (n ∷ ns) (x ∷ xs) still same = search (arith, (found-still h k ns xs still))
 
 there : {X : Type 0} (xs : List X) (i : ℕ) → i < length xs
     → (x : X) × (slice_get xs i ≡ Some x) × (drop i xs ≡ x ∷ drop (suc i) xs)
@@ -67,5 +63,4 @@ from-place xs a i (suc n) at few =
 pub file-found : {X : Type 0} (xs ys : List X)
     → filter_map (numbered_from_one (xs ++ ys)) (range_with_len 1 (length xs)) ≡ xs
 file-found xs ys =
-    let long = length-append xs ys in
-    from-place (xs ++ ys) 1 0 (length xs) refl (omega (arith, long)) ∙ front-taken xs ys (length xs) refl
+    search (arith, (length-append xs ys), (from-place (xs ++ ys) 1 0 (length xs)), (front-taken xs ys (length xs)))

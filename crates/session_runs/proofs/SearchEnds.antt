@@ -1,5 +1,5 @@
 -- The searches of a log, by where they began.
-use Rattle.std.proofs.Common.{◌≡◌, ℕ, List, [], ◌∷◌, ◌++◌, refl, sym, ◌∙◌, ap, arith}
+use Rattle.std.proofs.Common.{◌≡◌, ℕ, List, [], ◌∷◌, ◌++◌, refl, sym, arith}
 use Rattle.hint_log.specs.Entries.{Entry, Named, Given, Learned, Answer, Round, Begun, beginnings_of}
 use Rattle.hint_log.specs.Growth.{Each}
 use Rattle.hint_log.specs.declared.origins.Origin.TheVariants.{Instance, Gate, Fault, Copy, Link, TermGate, Differ}
@@ -39,8 +39,7 @@ ends-behind-more now (Begun l ∷ more) live old none = absurd (omega (arith, no
 -- one search more
 pub ends-more : (new more : List Entry) (live : List ℕ) (old : List Entry) → new ≡ more ++ Begun live ∷ old
     → beginnings_of more ≡ 0 → ends_of old ++ new ∷ [] ≡ ends_of new
-ends-more new more live old grown none =
-    sym (ap (ends_behind new) grown ∙ ends-behind-more new more live old none)
+ends-more new more live old grown none = search (arith, ends-behind-more)
 
 no-ends-behind : (now es : List Entry) → beginnings_of es ≡ 0 → ends_behind now es ≡ []
 no-ends-behind now [] none = refl

@@ -1,5 +1,5 @@
 -- A session's log behind a search.
-use Rattle.std.proofs.Common.{◌≡◌, ◌⊎◌, inl, inr, ◌∷◌, [], List, ℕ, Result, Ok, Err, OnErr, sym, ◌∙◌, subst}
+use Rattle.std.proofs.Common.{◌≡◌, ◌⊎◌, inl, inr, ◌∷◌, [], List, ℕ, Result, Ok, Err, arith}
 use Rattle.hint_log.specs.Entries.{Entry, Named, Given, Learned, Answer, Round, Begun, ProofLog}
 use Rattle.hint_log.specs.Growth.{Each}
 use Rattle.hint_log.specs.ProductiveSession.{IsProductiveSession}
@@ -9,7 +9,7 @@ use Rattle.hint_log.specs.declared.stops.Stop.TheVariants.{Memory, Limit}
 use Rattle.dq_lits.specs.Formula.{Dqbf}
 use Rattle.aig_graph.specs.Graph.{AigGraph}
 use Rattle.oracle.specs.Searched.{IsSearched}
-use Rattle.dq_session.specs.Databases.{DatabaseState, all_of, frames_of, live_of}
+use Rattle.dq_session.specs.Databases.{DatabaseState, all_of, live_of}
 use Rattle.repair_loop.specs.SearchStates.{CanBeginSearch, IsKept, HasBegun, IsOfSearch as IsOfItsSearch}
 use Rattle.repair_loop.specs.declared.search_states.SearchState.{SearchState}
 use Rattle.session_runs.specs.LargerSessions.{IsOfSearch}
@@ -36,23 +36,10 @@ same-searched (Begun live ∷ es) each = (tt, same-searched es each.1)
 -- a session's log is of work
 pub session-work : (all : Dqbf) (frames : List ℕ) (es : List Entry) → IsProductiveSession all frames es
     → IsWorkOver all es
-session-work all frames es session = record {
-  kept = record {
-    origins = session.givens_match_origins;
-    new_rows = session.rounds_refute_new_rows;
-    models = session.rounds_follow_a_model;
-    givens = session.givens_are_not_repeated;
-  };
-  lemmas_are_derived = session.lemmas_are_derived;
-  lemmas_are_new = session.lemmas_are_new;
-}
+session-work all frames es session = search arith
 
 pub ready-so-far : (b : DatabaseState) (d : SearchState) (g : AigGraph) (es : List Entry) → CanBeginSearch b d g es → IsSoFar b es
-ready-so-far b d g es ready = record {
-  work = session-work (all_of b) (frames_of b) es ready.session;
-  searched = same-searched es ready.searched;
-  one_each = ready.database.database.stack.many_frames;
-}
+ready-so-far b d g es ready = search (arith, session-work, same-searched)
 
 -- a search began, where there is a verdict
 pub surely : {X : Type 0} {A B : Type 0} (r : Result X Stop) (x : X) → r ≡ Ok x → A ⊎ ((r ≡ Err Memory) × B) → A
@@ -62,28 +49,12 @@ surely r x is (inr (err, same)) = cc
 pub surely-at : {X A B : Type 0} (r : Result X Stop) (stop : Stop) → r ≡ Err stop → (stop ≡ Memory → ⊥)
     → A ⊎ ((r ≡ Err Memory) × B) → A
 surely-at r stop is other (inl h) = h
-surely-at {X} r stop is other (inr (err, same)) = absurd (other (stops stop Memory (sym is ∙ err)))
-  where
-    stops : (s t : Stop) → ◌≡◌ {A = Result X Stop} (Err s) (Err t) → s ≡ t
-    stops s t same = cc
+surely-at {X} r stop is other (inr (err, same)) = search arith
 
 pub so-far-behind : {A : Type 0} (b : DatabaseState) (d : SearchState) (g : AigGraph) (old new : ProofLog)
     → CanBeginSearch b d g old.entries → IsKept (all_of b) new.entries → IsSearched new.entries
     → HasBegun (live_of b) old.entries new.entries ⊎ (A × (new ≡ old)) → IsSoFar b new.entries
-so-far-behind b d g old new ready kept searched began = record {
-  work = record { kept = kept; lemmas_are_derived = searched.derived; lemmas_are_new = searched.new };
-  searched = behind began;
-  one_each = ready.database.database.stack.many_frames;
-}
-  where
-    behind : {A : Type 0} → HasBegun (live_of b) old.entries new.entries ⊎ (A × (new ≡ old))
-        → Each IsOfSearch new.entries
-    behind (inl h) =
-        subst (Each IsOfSearch) (sym h.grown)
-        (of-search-behind h.more (live_of b) old.entries (same-searched old.entries ready.searched))
-    behind (inr (it, same)) =
-        subst (λ (log : ProofLog). Each IsOfSearch log.entries) (sym same)
-        (same-searched old.entries ready.searched)
+so-far-behind b d g old new ready kept searched began = search (arith, of-search-behind, same-searched)
 
 pub limit-other : Limit ≡ Memory → ⊥
 limit-other same = cc

@@ -1,5 +1,5 @@
 -- What a database stands for that follows a script.
-use Rattle.std.proofs.Common.{◌≡◌, ℕ, List, [], ◌∷◌, ◌++◌, map, length, refl, sym, ◌∙◌, ap, subst, append_assoc, append-nil}
+use Rattle.std.proofs.Common.{◌≡◌, ℕ, List, [], ◌∷◌, ◌++◌, map, length, refl, sym, ◌∙◌, ap, subst, append_assoc, append-nil, arith}
 use Rattle.std.specs.List.{filter_map, range_with_len}
 use Rattle.std.proofs.lemmas.List.{map-append}
 use Rattle.std.proofs.lemmas.List.Elements.{filter_map-append}
@@ -9,11 +9,10 @@ use Rattle.hint_log.specs.Live.{with_matrix, formula_of}
 use Rattle.hint_log.specs.Naming.{numbered_from_one}
 use Rattle.script_text.specs.Commands.{ScriptCommand, push, add, pop, solve}
 use Rattle.script_text.specs.Frames.{Frames, clauses_of, formula_in, frames_behind, formulas_from}
-use Rattle.dq_session.specs.Changes.{file_live}
 use Rattle.dq_session.specs.declared.live.Live.{Live}
 use Rattle.dq_session.specs.declared.live.OpenFrame.{OpenFrame}
 use Rattle.session_runs.specs.Numbering.{NumberedFrame, Numbering, numbering_at_start, numbering_behind, numbering_from, live_in, live_from, newest_number}
-use Rattle.session_runs.specs.Following.{frame_live, AreOpenFrames, AreFramesOf}
+use Rattle.session_runs.specs.Following.{AreOpenFrames, AreFramesOf}
 use Rattle.session_runs.specs.Laws.{FollowingDatabasesStand, NumbersNameFormulas}
 use Rattle.session_runs.proofs.Followed.{same-depth, frames-follow, frames-still}
 use Rattle.session_runs.proofs.Lists.{all-found, file-found}
@@ -21,19 +20,13 @@ use Rattle.session_runs.proofs.Lists.{all-found, file-found}
 numbers-back : (to : ℕ → Live) → ((j : ℕ) → (to j).clause ≡ j) → (js : List ℕ)
     → map (λ (l : Live). l.clause) (map to js) ≡ js
 numbers-back to back [] = refl
-numbers-back to back (j ∷ js) =
-    ap (λ i. i ∷ map (λ (l : Live). l.clause) (map to js)) (back j) ∙ ap (λ is. j ∷ is) (numbers-back to back js)
+numbers-back to back (j ∷ js) = search (arith, (numbers-back to back js))
 
 live-numbers : (file : ℕ) (ns : List NumberedFrame) (opens : List OpenFrame) (live : List Live)
     → AreOpenFrames file ns opens live → map (λ (l : Live). l.clause) live ≡ live_in file ns
-live-numbers file [] opens live (none, is) =
-    ap (map (λ (l : Live). l.clause)) is ∙ numbers-back file_live (λ j. refl) (range_with_len 1 file)
+live-numbers file [] opens live (none, is) = search (arith, numbers-back)
 live-numbers file (n ∷ ns) opens live (below, rest, opens-are, live-are, deeper) =
-    let number : Live → ℕ = λ l. l.clause in
-    ap (map number) live-are
-    ∙ map-append number rest (map (frame_live n.number) n.clauses)
-    ∙ ap (λ js. js ++ map number (map (frame_live n.number) n.clauses)) (live-numbers file ns below rest deeper)
-    ∙ ap (λ js. live_in file ns ++ js) (numbers-back (frame_live n.number) (λ j. refl) n.clauses)
+    search (arith, map-append, (live-numbers file ns below rest deeper), numbers-back)
 
 -- the clauses of these numbers are the formula's and the frames'
 named-clauses : (m : List (List Literal)) (file : ℕ) (ns : List NumberedFrame) (frames : Frames)
@@ -44,35 +37,17 @@ named-clauses m file [] [] are = sym (append-nil (filter_map (numbered_from_one 
 named-clauses m file [] (c ∷ cs) are = absurd are
 named-clauses m file (n ∷ ns) [] are = absurd are
 named-clauses m file (n ∷ ns) (c ∷ cs) (own, deeper) =
-    let h = numbered_from_one m in
-    filter_map-append h (live_in file ns) n.clauses
-    ∙ ap (λ xs. xs ++ filter_map h n.clauses) (named-clauses m file ns cs deeper)
-    ∙ ap (λ xs. (filter_map h (range_with_len 1 file) ++ clauses_of cs) ++ xs) (all-found h n.clauses c own)
-    ∙ append_assoc (filter_map h (range_with_len 1 file)) (clauses_of cs) c
+    search (arith, filter_map-append, (named-clauses m file ns cs deeper), all-found, append_assoc)
 
 -- so the formula of these numbers is the script's
 named-formula : (f : Dqbf) (all more : List (List Literal)) (ns : List NumberedFrame) (frames : Frames)
     → all ≡ f.matrix ++ more → AreFramesOf all ns frames
     → formula_of (with_matrix f all) (live_in (length f.matrix) ns) ≡ formula_in f frames
 named-formula f all more ns frames is are =
-    ap (with_matrix f)
-    (named-clauses all (length f.matrix) ns frames are
-    ∙ ap (λ xs. xs ++ clauses_of frames)
-    (ap (λ m. filter_map (numbered_from_one m) (range_with_len 1 (length f.matrix))) is ∙ file-found f.matrix more))
+    search (arith, (named-clauses all (length f.matrix) ns frames are), (file-found f.matrix more))
 
 pub following-databases-stand : FollowingDatabasesStand
-following-databases-stand s frames b follows are =
-    let live = live-numbers (length b.file.matrix) s.open_frames b.open_frames b.live follows.open_frames in
-    record {
-      all = ap (with_matrix b.file) follows.clauses;
-      frames_are = follows.frames;
-      live = live;
-      now =
-          ap (λ m. formula_of (with_matrix b.file m) (map (λ (l : Live). l.clause) b.live)) follows.clauses
-          ∙ ap (formula_of (with_matrix b.file s.clauses)) live
-          ∙ named-formula b.file s.clauses b.added s.open_frames frames (sym follows.clauses) are;
-      depth = same-depth (length b.file.matrix) s.open_frames b.open_frames b.live follows.open_frames;
-    }
+following-databases-stand s frames b follows are = search (arith, live-numbers, named-formula, same-depth)
 
 -- commands that come leave what was numbered
 pub clauses-come : (s : Numbering) (commands : List ScriptCommand)

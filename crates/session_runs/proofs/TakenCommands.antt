@@ -1,5 +1,5 @@
 -- A session behind its next command.
-use Rattle.std.proofs.Common.{◌≡◌, inr, ℕ, zero, suc, ◌+◌, ◌≤◌, true, false, List, [], ◌∷◌, ◌++◌, map, drop, length, slice_get, Some, refl, sym, ◌∙◌, ap, subst, arith, append_assoc, append-nil}
+use Rattle.std.proofs.Common.{◌≡◌, inr, ℕ, ◌+◌, ◌≤◌, true, false, List, [], ◌∷◌, ◌++◌, drop, length, slice_get, Some, refl, sym, ◌∙◌, ap, subst, arith, append_assoc, append-nil}
 use Rattle.std.specs.List.{All}
 use Rattle.std.proofs.lemmas.List.{length-append, map-append, drop_all}
 use Rattle.std.proofs.lemmas.List.Elements.{All-push, All-nil}
@@ -7,7 +7,6 @@ use Rattle.list_laws.proofs.Elements.{drop-at}
 use Rattle.dq_lits.specs.Formula.{Dqbf}
 use Rattle.cert_text.specs.Header.{max_count}
 use Rattle.hint_log.specs.Entries.{Entry, ProofLog}
-use Rattle.hint_log.specs.Live.{live_numbers}
 use Rattle.hint_log.specs.ProductiveSession.{IsProductiveSession, IsUndecidedSince}
 use Rattle.dq_session.specs.Databases.{DatabaseState, all_of, frames_of, live_of, now_of}
 use Rattle.aig_graph.specs.Graph.{AigGraph}
@@ -36,9 +35,7 @@ use Rattle.session_runs.proofs.WholeSessions.{whole-session, whole-work, whole-u
 
 next-left : (commands : List ScriptCommand) (place : ℕ) (c : ScriptCommand) → slice_get commands place ≡ Some c
     → drop place commands ≡ c ∷ drop (place + 1) commands
-next-left commands place c is =
-    let on : suc place ≡ place + 1 = omega arith in
-    drop-at commands place c is ∙ ap (λ n. c ∷ drop n commands) on
+next-left commands place c is = search (arith, drop-at)
 
 pub search-is : (c : ScriptCommand) → is_search c ≡ true → c ≡ solve
 search-is push is = cc
@@ -70,8 +67,7 @@ module _ (stand : FollowingDatabasesStand) (commands : List ScriptCommand) (plac
   may-take = may-come stand s.file.now commands (drop (place + 1) commands) s.database is.searches c followed
 
   pub few-clauses : length (all_of s.database).matrix ≤ max_clauses
-  few-clauses =
-      subst (λ cs. length cs ≤ max_clauses) (sym is.followed.follows.clauses) is.followed.few
+  few-clauses = search arith
 
   -- want of memory ends the run with a session's log
   pub work-of : (new : ProofLog) → IsSoFar s.database new.entries → IsWorkOf s.file.now commands new
@@ -117,13 +113,8 @@ standing-change follow stand opens closes comes commands place s log c at is oth
 -- one block more
 blocks-more : (k : ℕ) (ss : List Search) (x : Search)
     → blocks_text k (ss ++ x ∷ []) ≡ blocks_text k ss ++ block_text (k + length ss) x
-blocks-more k [] x =
-    let same : k ≡ k + zero = omega arith in
-    append-nil (block_text k x) ∙ ap (λ n. block_text n x) same
-blocks-more k (s ∷ ss) x =
-    let same : k + 1 + length ss ≡ k + suc (length ss) = omega arith in
-    ap (λ t. block_text k s ++ t) (blocks-more (k + 1) ss x ∙ ap (λ n. blocks_text (k + 1) ss ++ block_text n x) same)
-    ∙ sym (append_assoc (block_text k s) (blocks_text (k + 1) ss) (block_text (k + suc (length ss)) x))
+blocks-more k [] x = search (arith, append-nil)
+blocks-more k (s ∷ ss) x = search (arith, (blocks-more (k + 1) ss x), append_assoc)
 
 shown-whole : (all whole : Dqbf) (log : ProofLog) (f : Dqbf) (v : Verdict)
     → (IsUndecidedSince all log.entries
@@ -131,13 +122,7 @@ shown-whole : (all whole : Dqbf) (log : ProofLog) (f : Dqbf) (v : Verdict)
     → IsShown all log f v → IsShown whole log f v
 shown-whole all whole log f (is_true file proof) more shown = shown
 shown-whole all whole log f (is_false d) more shown = shown
-shown-whole all whole log f (is_unknown rounds learned) more shown = record {
-  limit = shown.limit;
-  next = shown.next;
-  undecided = more shown.undecided;
-  rounds_are = shown.rounds_are;
-  steps_are = shown.steps_are;
-}
+shown-whole all whole log f (is_unknown rounds learned) more shown = search arith
 
 same-all : (b c : DatabaseState) → IsDatabaseAfter b c → all_of c ≡ all_of b
 same-all b c after = ap all_of after.same
@@ -153,24 +138,14 @@ module _ (stand : FollowingDatabasesStand) (undecided-law : UndecidedTakesClause
   made-now = record { formula = now_of s.database; verdict = on.verdict; entries = new.entries }
 
   session-so-far : IsProductiveSession (all_of s.database) (frames_of s.database) new.entries
-  session-so-far =
-      subst (λ all. IsProductiveSession all (frames_of s.database) new.entries) (same-all s.database t.database on.database)
-      (subst (λ fs. IsProductiveSession (all_of t.database) fs new.entries) (same-frames s.database t.database on.database)
-      on.ready.session)
+  session-so-far = search (arith, same-all, same-frames)
 
   shown-now : IsShown (all_clauses s.file.now commands) (end_of new made-now) made-now.formula made-now.verdict
-  shown-now =
-      shown-whole (all_of s.database) (all_clauses s.file.now commands) new (now_of s.database) on.verdict
-      (whole-undecided stand s.file.now commands (drop place commands) s.database is.searches is.followed undecided-law
-      new.entries (live_of s.database) session-so-far on.began.named)
-      on.shown
+  shown-now = search (arith, shown-whole, whole-undecided, session-so-far)
 
   shown-before : All
       (λ (x : Search). IsShown (all_clauses s.file.now commands) (end_of new x) x.formula x.verdict) is.searches
-  shown-before =
-      subst (λ n. All (λ (x : Search). IsShown (all_clauses s.file.now commands)
-      (record { limit = n; entries = x.entries }) x.formula x.verdict) is.searches)
-      (sym limit) is.made.shown
+  shown-before = search arith
 
   made : AreMade (all_clauses s.file.now commands) new (is.searches ++ made-now ∷ [])
   made = record {
@@ -190,21 +165,9 @@ module _ (stand : FollowingDatabasesStand) (undecided-law : UndecidedTakesClause
       let one : s.count + 1 ≡ 1 + length is.searches = omega (arith, counted) in
       record {
         searches = is.searches ++ made-now ∷ [];
-        followed =
-            subst (λ g. IsFollowed g commands (drop (place + 1) commands) t.database (is.searches ++ made-now ∷ []))
-            (sym on.file)
-            (followed-later s.file.now commands (drop (place + 1) commands) s.database t.database (is.searches ++ made-now ∷ [])
-            on.database.same on.database.many_groups
-            (followed-search stand s.file.now commands (drop (place + 1) commands) s.database is.searches made-now refl
-            on.began.named
-            (subst (λ rest. IsFollowed s.file.now commands rest s.database is.searches)
-            (next-left commands place solve at) is.followed)));
+        followed = search (arith, followed-later, followed-search, next-left);
         made = subst (λ g. AreMade (all_clauses g commands) new (is.searches ++ made-now ∷ [])) (sym on.file) made;
-        written =
-            on.written
-            ∙ ap (λ xs. xs ++ block_text (s.count + 1) made-now) is.written
-            ∙ ap (λ n. blocks_text 1 is.searches ++ block_text n made-now) one
-            ∙ sym (blocks-more 1 is.searches made-now);
+        written = search (arith, blocks-more);
         count = (let more = on.count in omega (arith, more, counted, long));
         few = (let few = is.few in omega (arith, few, long));
         ready = on.ready;
@@ -216,42 +179,16 @@ module _ (stand : FollowingDatabasesStand) (undecided-law : UndecidedTakesClause
 pub session-done : FollowingDatabasesStand → SessionsTakeClauses → (commands : List ScriptCommand) (s : Session)
     (log : ProofLog) → IsSessionInvariant commands (length commands) s log
     → IsSessionText s.file.now commands log s.text.items
-session-done stand law commands s log is =
-    let none : drop (length commands) commands ≡ [] = drop_all (length commands) commands (omega arith) in
-    let followed : IsFollowed s.file.now commands [] s.database is.searches =
-    subst (λ rest. IsFollowed s.file.now commands rest s.database is.searches) none is.followed in
-    let so-far = ready-so-far s.database s.search_state s.graph log.entries is.ready in
-    record {
-      searches = is.searches;
-      searched = record {
-        session = whole-session stand s.file.now commands [] s.database is.searches followed law log.entries
-            so-far.one_each so-far.searched is.ready.session;
-        ends = is.made.ends;
-        begun = sym (append-nil (map (λ (x : Search). live_numbers x.entries) is.searches)) ∙ followed.begun;
-        formulas = sym (append-nil (map (λ (x : Search). x.formula) is.searches)) ∙ followed.formulas;
-        shown = is.made.shown;
-      };
-      is = is.written;
-    }
+session-done stand law commands s log is = search (arith, drop_all, ready-so-far, whole-session, append-nil)
 
 -- before the first command
 pub standing-at-start : (f : Dqbf) (commands : List ScriptCommand) (s : Session) (log : ProofLog)
     → AreAllowed f 0 (length f.matrix) commands → length f.matrix ≤ max_clauses → log.limit ≤ max_count
     → IsBegun f s log → IsSessionInvariant commands 0 s log
-standing-at-start f commands s log allowed few limit is = record {
-  searches = [];
-  followed =
-      subst (λ g. IsFollowed g commands commands s.database []) (sym is.file)
-      (subst (λ b. IsFollowed f commands commands b []) (sym is.database)
-      (followed-at-start f commands s.database.table allowed few));
-  made = record {
-    ends = no-ends log.entries is.none_began;
-    shown = All-nil (λ (x : Search). IsShown (all_clauses s.file.now commands) (end_of log x) x.formula x.verdict);
-  };
-  written = is.no_text;
-  count = is.no_count;
-  few = omega arith;
-  ready = is.ready;
-  current = is.none_kept;
-  limit = limit;
-}
+standing-at-start f commands s log allowed few limit is =
+    search (
+      arith,
+      (followed-at-start f commands s.database.table allowed few),
+      (no-ends log.entries is.none_began),
+      All-nil,
+    )

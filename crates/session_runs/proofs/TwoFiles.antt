@@ -1,13 +1,12 @@
 -- What is due for a script's file behind a formula's.
 use Rattle.std.proofs.Common.{◌≡◌, ◌≢◌, inl, inr, ℕ, List, Result, Ok, Err, ◌∙◌, ap, subst, arith}
 use Rattle.std.specs.Prelude.{IfOk}
-use Rattle.dq_io.specs.Causes.{next_count, Rose}
-use Rattle.dq_io.specs.Files.{Absent}
+use Rattle.dq_io.specs.Causes.{next_count}
 use Rattle.dq_io.specs.State.{FilesState}
 use Rattle.dq_lits.specs.Formula.{Dqbf}
 use Rattle.dq_lits.specs.declared.memory.Memory.{Memory}
 use Rattle.dqdimacs_reader.specs.declared.faults.FormulaFault.{FormulaFault}
-use Rattle.dq_runs.specs.FileTexts.{IsLong, IsShortText, IsUnreadable, IsTooLong, PickedOnce, PickedTwice}
+use Rattle.dq_runs.specs.FileTexts.{IsShortText, IsUnreadable, IsTooLong, PickedOnce, PickedTwice}
 use Rattle.dq_runs.specs.FormulaFiles.{IsFaultOf, IsFormulaOf, IsNoFormula, formula_line}
 use Rattle.dq_runs.specs.Printed.{printed}
 use Rattle.dq_runs.specs.declared.formulas.NoFormula.{NoFormula as FormulaReport}
@@ -16,8 +15,8 @@ use Rattle.dq_runs.specs.declared.outputs.Output.{Output}
 use Rattle.dq_runs.proofs.SaidFormulas.{status_of, said_rightly}
 use Rattle.hint_log.specs.Entries.{ProofLog}
 use Rattle.session_runs.specs.Blocks.{printed_session}
-use Rattle.session_runs.specs.ScriptFiles.{IsTextDue, IsTextOutput, IsNoScript, IsScriptDue, IsBehindFormula, IsFaultDue, IsBehindFault}
-use Rattle.session_runs.specs.SessionFiles.{max_script, session_line, IsNoSession, IsSessionDue, IsSessionOutput}
+use Rattle.session_runs.specs.ScriptFiles.{IsTextDue, IsTextOutput, IsBehindFormula, IsFaultDue, IsBehindFault}
+use Rattle.session_runs.specs.SessionFiles.{max_script, session_line, IsNoSession, IsSessionOutput}
 use Rattle.session_runs.specs.declared.files.NoSession.{NoSession}
 use Rattle.session_runs.specs.declared.files.NoSession.TheVariants.{NoFormula, UnreadableScript, LongScript, RefusedScript}
 
@@ -36,14 +35,7 @@ text-behind before now f log script text (Ok output) short once unfaulted is = b
       unfaulted = λ _. unfaulted;
     }
     by (inr (commands, searches, reading, searched, same)) = record {
-      due = inr (
-        commands,
-        searches,
-        record { text = text; read = short; reading = reading },
-        searched,
-        once,
-        same,
-      );
+      due = search arith;
       long = λ six. let zero = status_of output (printed_session searches) same in absurd (omega (arith, six, zero));
       unfaulted = λ _. unfaulted;
     }
@@ -60,17 +52,11 @@ twice before mid now passes once = once ∙ ap next_count passes.picked
 
 unreadable-behind : (before mid now : FilesState) (name : List ℕ) → Passes before mid → IsUnreadable mid now name
     → IsUnreadable before now name
-unreadable-behind before mid now name passes u = record {
-  counted = subst (λ n. Rose n now.faults) passes.unfaulted u.counted;
-  absent = λ told. subst (λ held. held name ≡ Absent) passes.held (u.absent (passes.reliable ∙ told));
-}
+unreadable-behind before mid now name passes u = search arith
 
 long-behind : (before mid now : FilesState) (name : List ℕ) → Passes before mid → IsTooLong max_script mid now name
     → IsTooLong max_script before now name
-long-behind before mid now name passes l = record {
-  long = subst (λ held. IsLong max_script (held name)) passes.held l.long;
-  given = l.given;
-}
+long-behind before mid now name passes l = search arith
 
 -- the formula's file ends it
 pub first-said : (before now : FilesState) (log : ProofLog) (file script : List ℕ) (said : FormulaReport)
@@ -130,47 +116,5 @@ pub formula-behind : (before mid now : FilesState) (log : ProofLog) (file script
     (r : Result Output Memory) → Passes before mid → IsFormulaOf (before.held file) f
     → IfOk r (IsBehindFormula mid now f log script) → IfOk r (IsSessionOutput before now log file script)
 formula-behind before mid now log file script f (Err _) passes formula is = tt
-formula-behind before mid now log file script f (Ok output) passes formula is = record {
-  due = by is.due;
-  long = is.long;
-  unfaulted = λ other. is.unfaulted other ∙ passes.unfaulted;
-}
-  where
-    said-of : (said : NoSession) → IsNoScript mid now script f said → IsNoSession before now file script said
-    said-of (NoFormula said) none = absurd none
-    said-of UnreadableScript (unreadable, once) = (
-      (formula.text, formula.read),
-      unreadable-behind before mid now script passes unreadable,
-      twice before mid now passes once,
-    )
-    said-of LongScript (long, once) =
-        ((formula.text, formula.read), long-behind before mid now script passes long, twice before mid now passes once)
-    said-of (RefusedScript line name) (refused, once) = (
-      (
-        f,
-        formula,
-        record {
-          text = refused.text;
-          read = subst (λ held. IsShortText max_script (held script) refused.text) passes.held refused.read;
-          refused = refused.refused;
-        },
-      ),
-      twice before mid now passes once,
-    )
-
-    by : IsScriptDue mid now f log script (printed output) → IsSessionDue before now log file script (printed output)
-    by (inl (said, is-said, same)) = inl (said, said-of said is-said, same)
-    by (inr (commands, searches, script-is, searched, once, same)) = inr (record {
-      f = f;
-      commands = commands;
-      searches = searches;
-      formula = formula;
-      script_is = record {
-        text = script-is.text;
-        read = subst (λ held. IsShortText max_script (held script) script-is.text) passes.held script-is.read;
-        reading = script-is.reading;
-      };
-      searched = searched;
-      picked = twice before mid now passes once;
-      is_printed = same;
-    })
+formula-behind before mid now log file script f (Ok output) passes formula is =
+    search (arith, unreadable-behind, long-behind)

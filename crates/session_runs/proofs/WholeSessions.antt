@@ -20,9 +20,7 @@ use Rattle.session_runs.specs.Followed.{IsFollowed}
 module _ (stand : FollowingDatabasesStand) (f : Dqbf) (commands left : List ScriptCommand) (b : DatabaseState)
     (searches : List Search) (is : IsFollowed f commands left b searches) where
   so-far : all_of b ≡ with_matrix f is.numbering.clauses
-  so-far =
-      (stand is.numbering is.frames b is.follows is.frames_are).all
-      ∙ ap (λ g. with_matrix g is.numbering.clauses) is.file
+  so-far = search arith
 
   all-is : is.numbering.clauses ++ (clauses-come is.numbering left).0 ≡ (all_clauses f commands).matrix
   all-is = sym (clauses-come is.numbering left).1 ∙ ap (λ n. n.clauses) is.rest
@@ -31,14 +29,7 @@ module _ (stand : FollowingDatabasesStand) (f : Dqbf) (commands left : List Scri
   frames-are = sym (frames-come is.numbering left).1 ∙ ap (λ n. n.frames) is.rest
 
   one-each : length b.frames ≡ length b.added → length is.numbering.frames ≡ length is.numbering.clauses
-  one-each many =
-      let file = length b.file.matrix in
-      let left-long = length-append (replicate file 0) b.frames in
-      let zeros = length-replicate {A = ℕ} file 0 in
-      let right-long = length-append b.file.matrix b.added in
-      let frames = ap (λ fs. length fs) is.follows.frames in
-      let clauses = ap (λ cs. length cs) is.follows.clauses in
-      omega (arith, left-long, zeros, right-long, frames, clauses, many)
+  one-each many = search (arith, length-append, replicate, length-replicate)
 
   pub whole-session : SessionsTakeClauses → (entries : List Entry) → length b.frames ≡ length b.added
       → Each IsOfSearch entries → IsProductiveSession (all_of b) (frames_of b) entries

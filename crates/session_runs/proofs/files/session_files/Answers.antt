@@ -1,49 +1,19 @@
-use Rattle.std.proofs.Common.{◌∙◌, ap, refl}
+use Rattle.std.proofs.Common.{◌∙◌, ap, arith}
 use Rattle.dq_io.specs.State.{state_of}
 use Rattle.dq_runs.specs.declared.formulas.FormulaStop.TheVariants.{Said}
-use Rattle.dq_runs.specs.declared.formulas.NoFormula.TheVariants.{Unreadable, TooLong, Refused}
+use Rattle.dq_runs.specs.declared.formulas.NoFormula.TheVariants.{Refused}
 use Rattle.dq_runs.proofs.SaidFormulas.{said_read, not_unreadable}
 use Rattle.session_runs.proofs.TwoFiles.{first-said, fault-behind, formula-behind}
 use Rattle.session_runs.proofs.files.session_files.Goals as goal
 
 pub returns-in-Ok-clause-due : goal.returns-in-Ok-clause-due
-returns-in-Ok-clause-due g c =
-    let before = state_of g.F.Files c.args.files.now in
-    let mid = state_of g.F.Files c.read_formula.new.files in
-    let now = state_of g.F.Files c.behind_formula.new.files in
-    let read = c.in-Ok.ensures in
-    formula-behind before mid now c.behind_formula.new.log c.args.file.now c.args.script.now c.in-Ok.f
-    c.behind_formula.result
-    (record {
-      held = read.held;
-      reliable = read.still_reliable;
-      picked = read.read.1;
-      unfaulted = read.unfaulted (λ none. none);
-    })
-    read.read.0 c.behind_formula.ensures.due
+returns-in-Ok-clause-due g c = search (arith, formula-behind)
 
 pub returns-in-Err-Said-Unreadable-clause-due : goal.returns-in-Err-Said-Unreadable-clause-due
-returns-in-Err-Said-Unreadable-clause-due g c =
-    let before = state_of g.F.Files c.args.files.now in
-    let now = state_of g.F.Files c.read_formula.new.files in
-    let is = c.in-Err-Said-Unreadable in
-    let read = said_read before now c.args.file.now c.read_formula.result is.field-0 Unreadable is.is
-    (is.field-0-is ∙ ap Said is.field-0-0-is) c.read_formula.ensures.read in
-    first-said before now c.args.log.now c.args.file.now c.args.script.now Unreadable c.output.result (λ h. h) read
-    (λ other. absurd (other refl)) c.output.ensures
+returns-in-Err-Said-Unreadable-clause-due g c = search (arith, said_read, first-said)
 
 pub returns-in-Err-Said-TooLong-clause-due : goal.returns-in-Err-Said-TooLong-clause-due
-returns-in-Err-Said-TooLong-clause-due g c =
-    let before = state_of g.F.Files c.args.files.now in
-    let now = state_of g.F.Files c.read_formula.new.files in
-    let is = c.in-Err-Said-TooLong in
-    let stop = is.field-0-is ∙ ap Said is.field-0-0-is in
-    let read = said_read before now c.args.file.now c.read_formula.result is.field-0 TooLong is.is stop
-    c.read_formula.ensures.read in
-    first-said before now c.args.log.now c.args.file.now c.args.script.now TooLong c.output-in-Err-Said-TooLong.result
-    (λ h. h) read
-    (λ other. c.read_formula.ensures.unfaulted (not_unreadable c.read_formula.result is.field-0 TooLong is.is stop other))
-    c.output-in-Err-Said-TooLong.ensures
+returns-in-Err-Said-TooLong-clause-due g c = search (arith, said_read, first-said, not_unreadable)
 
 pub returns-in-Err-Said-Refused-clause-due : goal.returns-in-Err-Said-Refused-clause-due
 returns-in-Err-Said-Refused-clause-due g c =

@@ -1,6 +1,6 @@
-use Rattle.std.proofs.Common.{◌≡◌, ◌∙◌, Ok, Err, ap, refl, sym, subst}
+use Rattle.std.proofs.Common.{◌≡◌, ◌∙◌, Ok, Err, ap, refl, sym, subst, arith}
 use Rattle.std.proofs.lemmas.Result.{IfOk-weaker}
-use Rattle.dq_lits.specs.Formula.{Dqbf, IsWellFormed}
+use Rattle.dq_lits.specs.Formula.{Dqbf}
 use Rattle.cert_export.specs.ExportableLogs.{RestsOnLive}
 use Rattle.verdict_texts.specs.Forms.{plain}
 use Rattle.verdict_texts.specs.Shown.{IsTrueText, IsFalseText, unknown_by}
@@ -13,9 +13,7 @@ use Rattle.list_laws.proofs.Results.{on_err}
 use Rattle.session_runs.proofs.searches.decide.Goals as goal
 
 pub text_of_true-requires-clause-formula : goal.text_of_true-requires-clause-formula
-text_of_true-requires-clause-formula g c =
-    subst IsWellFormed (sym c.requires.now)
-    (now_formed c.args.database.now c.args.log.now.entries c.requires.ready.database.database)
+text_of_true-requires-clause-formula g c = search (arith, now_formed)
 
 pub text_of_true-requires-clause-answered : goal.text_of_true-requires-clause-answered
 text_of_true-requires-clause-answered g c = (
@@ -37,16 +35,10 @@ returns-in-Ok-True-clause-found g c =
     c.text_of_true.ensures
 
 pub returns-in-Ok-True-clause-err : goal.returns-in-Ok-True-clause-err
-returns-in-Ok-True-clause-err g c =
-    on_err c.text_of_true.result
-    (so-far-behind c.args.database.now c.args.search_state.now c.args.graph.now c.args.log.now c.decide_now.new.log
-    c.requires.ready c.in-Ok-True.ensures.kept
-    (g.met.O.Oracle.searched c.decide_now.new.oracle c.decide_now.new.log c.in-Ok-True.ensures.fit) c.in-Ok-True.ensures.began)
+returns-in-Ok-True-clause-err g c = search (arith, on_err, so-far-behind)
 
 pub text_of_false-requires-clause-formula : goal.text_of_false-requires-clause-formula
-text_of_false-requires-clause-formula g c =
-    subst IsWellFormed (sym c.requires.now)
-    (now_formed c.args.database.now c.args.log.now.entries c.requires.ready.database.database)
+text_of_false-requires-clause-formula g c = search (arith, now_formed)
 
 pub text_of_false-requires-clause-answered : goal.text_of_false-requires-clause-answered
 text_of_false-requires-clause-answered g c =
@@ -70,11 +62,7 @@ returns-in-Ok-False-clause-found g c =
     c.text_of_false.ensures
 
 pub returns-in-Ok-False-clause-err : goal.returns-in-Ok-False-clause-err
-returns-in-Ok-False-clause-err g c =
-    on_err c.text_of_false.result
-    (so-far-behind c.args.database.now c.args.search_state.now c.args.graph.now c.args.log.now c.decide_now.new.log
-    c.requires.ready c.in-Ok-False.ensures.kept
-    (g.met.O.Oracle.searched c.decide_now.new.oracle c.decide_now.new.log c.in-Ok-False.ensures.fit) c.in-Ok-False.ensures.began)
+returns-in-Ok-False-clause-err g c = search (arith, on_err, so-far-behind)
 
 pub returns-in-Err-Limit-clause-found : goal.returns-in-Err-Limit-clause-found
 returns-in-Err-Limit-clause-found g c =
@@ -93,14 +81,11 @@ returns-in-Err-Limit-clause-found g c =
     c.unknown_text.ensures
 
 pub returns-in-Err-Limit-clause-err : goal.returns-in-Err-Limit-clause-err
-returns-in-Err-Limit-clause-err g c =
-    on_err c.unknown_text.result
-    (so-far-behind c.args.database.now c.args.search_state.now c.args.graph.now c.args.log.now c.decide_now.new.log
-    c.requires.ready c.in-Err-Limit.ensures.kept
-    (g.met.O.Oracle.searched c.decide_now.new.oracle c.decide_now.new.log c.in-Err-Limit.ensures.fit) c.in-Err-Limit.ensures.began)
+returns-in-Err-Limit-clause-err g c = search (arith, on_err, so-far-behind)
 
 pub returns-clause-err : goal.returns-clause-err
 returns-clause-err g c =
-    so-far-behind c.args.database.now c.args.search_state.now c.args.graph.now c.args.log.now c.decide_now.new.log
-    c.requires.ready c.in-Err-Memory.ensures.kept
-    (g.met.O.Oracle.searched c.decide_now.new.oracle c.decide_now.new.log c.in-Err-Memory.ensures.fit) c.in-Err-Memory.ensures.began
+    search (
+      arith,
+      (so-far-behind c.args.database.now c.args.search_state.now c.args.graph.now c.args.log.now c.decide_now.new.log c.requires.ready c.in-Err-Memory.ensures.kept (g.met.O.Oracle.searched c.decide_now.new.oracle c.decide_now.new.log c.in-Err-Memory.ensures.fit) c.in-Err-Memory.ensures.began),
+    )

@@ -1,13 +1,11 @@
-use Rattle.std.proofs.Common.{◌+◌, ◌∙◌, length, refl, ap}
+use Rattle.std.proofs.Common.{◌+◌, ◌∙◌, length, refl, ap, arith}
 use Rattle.std.proofs.lemmas.List.{length-map}
 use Rattle.aig_graph.specs.Graph.{AigGraph}
 use Rattle.session_runs.proofs.FirstLogs.{first-productive, none-begun-yet, first-database}
 use Rattle.session_runs.proofs.sessions.Session.begin.Goals as goal
 
 pub returns-in_err-database-clause-log : goal.returns-in_err-database-clause-log
-returns-in_err-database-clause-log g c =
-    first-productive c.args.f.now c.args.log.now c.new.new.log c.requires.empty c.new.ensures.grew
-    (g.met.O.Oracle.searched c.new.new.oracle c.new.new.log c.new.ensures.fit)
+returns-in_err-database-clause-log g c = search (arith, first-productive)
 
 pub returns-clause-begun : goal.returns-clause-begun
 returns-clause-begun g c =

@@ -7,16 +7,10 @@ use Rattle.session_runs.proofs.TakenCommands.{search-is, may-take, work-of, stan
 use Rattle.session_runs.proofs.sessions.Session.take_at.Goals as goal
 
 pub search-requires-clause-room : goal.search-requires-clause-room
-search-requires-clause-room g c =
-    let standing = c.requires.standing in
-    let count = standing.count in
-    let few = standing.few in
-    omega (arith, c.requires.small, c.requires.within, count, few)
+search-requires-clause-room g c = search arith
 
 pub change-requires-clause-may_come : goal.change-requires-clause-may_come
-change-requires-clause-may_come g c =
-    may-take c.following_databases_stand.ensures c.args.script.now c.args.place c.args.self.now c.args.log.now
-    (command_seen c.get-command.result) c.get-command.ensures c.requires.standing
+change-requires-clause-may_come g c = search (arith, may-take)
 
 pub returns-then-is_search-clause-ok : goal.returns-then-is_search-clause-ok
 returns-then-is_search-clause-ok g c =
@@ -29,12 +23,7 @@ returns-then-is_search-clause-ok g c =
     c.search.ensures.ok
 
 pub returns-then-is_search-clause-err : goal.returns-then-is_search-clause-err
-returns-then-is_search-clause-err g c =
-    on-err-weaker c.search.result
-    (work-of c.following_databases_stand.ensures c.args.script.now c.args.place c.args.self.now c.args.log.now
-    (command_seen c.get-command.result) c.get-command.ensures c.requires.standing
-    c.search.new.log)
-    c.search.ensures.err
+returns-then-is_search-clause-err g c = search (arith, on-err-weaker, work-of)
 
 pub returns-else-is_search-clause-ok : goal.returns-else-is_search-clause-ok
 returns-else-is_search-clause-ok g c =
@@ -47,10 +36,4 @@ returns-else-is_search-clause-ok g c =
     c.change.ensures.database c.change.ensures.current
 
 pub returns-else-is_search-clause-err : goal.returns-else-is_search-clause-err
-returns-else-is_search-clause-err g c =
-    on_err c.change.result
-    (work-of c.following_databases_stand.ensures c.args.script.now c.args.place c.args.self.now c.args.log.now
-    (command_seen c.get-command.result) c.get-command.ensures c.requires.standing
-    c.args.log.now
-    (ready-so-far c.args.self.now.database c.args.self.now.search_state c.args.self.now.graph c.args.log.now.entries
-    c.requires.standing.ready))
+returns-else-is_search-clause-err g c = search (arith, on_err, work-of, ready-so-far)
