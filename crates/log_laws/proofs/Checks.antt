@@ -12,14 +12,12 @@ use Rattle.dq_lits.specs.Formula.{Existential, IsWellFormed}
 use Rattle.dq_lits.specs.Literal.{Literal, negative, variable_of, opposite, same_literal}
 use Rattle.dq_lits.specs.Derivation.{holds, stuck, status_of}
 use Rattle.dq_lits.proofs.Truth.{same_literal-sound}
-use Rattle.hint_log.specs.Entries.{Entry}
-use Rattle.hint_log.specs.Entries.{Named, Given, Learned, Answer, Round, Begun}
+use Rattle.hint_log.specs.Entries.{Entry, Named, Given, has_id, last_id, numbered, clause_of, clause_at, name_of}
 use Rattle.hint_log.specs.declared.names.Name.{Name}
 use Rattle.hint_log.specs.declared.names.Name.TheVariants.{Input}
 use Rattle.hint_log.specs.declared.origins.Origin.{Origin}
 use Rattle.hint_log.specs.Conditions.{IsId, AreIds, AreNamed}
 use Rattle.hint_log.specs.Deciding.{ReachesGiven, HoldsSelectors, ReadsInput, itself, left, right}
-use Rattle.hint_log.specs.Entries.{has_id, last_id, numbered, clause_of, clause_at, name_of}
 use Rattle.hint_log.specs.Growth.{Each}
 use Rattle.hint_log.specs.ProductiveLog.{IsClosed}
 use Rattle.log_laws.proofs.Found.{split_at, each_at}
@@ -55,11 +53,7 @@ no_name name (Named w n ∷ es) h v is = by_bit (v == w) (no_name name es h.1 v)
   by_bit : (b : Bool) → (name_of es v ≡ Some name → ⊥) → cond b (Some n) (name_of es v) ≡ Some name → ⊥
   by_bit true later is = let same : n ≡ name = cc in h.0 w (ap (Named w) same)
   by_bit false later is = later is
-no_name name (Given _ _ ∷ es) h v is = no_name name es h.1 v is
-no_name name (Learned _ _ ∷ es) h v is = no_name name es h.1 v is
-no_name name (Answer _ _ ∷ es) h v is = no_name name es h.1 v is
-no_name name (Round _ _ _ ∷ es) h v is = no_name name es h.1 v is
-no_name name (Begun _ ∷ es) h v is = no_name name es h.1 v is
+no_name name (_ ∷ es) h v is = no_name name es h.1 v is
 
 -- each entry's clause is stuck
 pub closed_by : (trues : List Literal) (entries : List Entry) →
@@ -156,11 +150,7 @@ named_has P (Named w m ∷ es) h v n is = by_bit (v == w) (named_has P es h.1 v 
   by_bit : (b : Bool) → (name_of es v ≡ Some n → P n) → cond b (Some m) (name_of es v) ≡ Some n → P n
   by_bit true later is = let same : m ≡ n = cc in h.0 w n (ap (Named w) same)
   by_bit false later is = later is
-named_has P (Given _ _ ∷ es) h v n is = named_has P es h.1 v n is
-named_has P (Learned _ _ ∷ es) h v n is = named_has P es h.1 v n is
-named_has P (Answer _ _ ∷ es) h v n is = named_has P es h.1 v n is
-named_has P (Round _ _ _ ∷ es) h v n is = named_has P es h.1 v n is
-named_has P (Begun _ ∷ es) h v n is = named_has P es h.1 v n is
+named_has P (_ ∷ es) h v n is = named_has P es h.1 v n is
 
 -- what is read is named an input
 pub read_is_named : (entries : List Entry) (l : Literal) (x : ℕ) → ReadsInput entries l x →

@@ -6,15 +6,13 @@ use Rattle.std.proofs.lemmas.List.Elements.{All-from_recursion}
 use Rattle.dq_lits.specs.Literal.{Literal, positive, negative}
 use Rattle.dq_lits.specs.Formula.{Dqbf, IsWellFormed}
 use Rattle.dq_lits.specs.Expansion.{universal_literal_true, IsExpansionModel}
-use Rattle.hint_log.specs.Entries.{Entry}
-use Rattle.hint_log.specs.Entries.{Named, Given, Learned, Round}
+use Rattle.hint_log.specs.Entries.{Entry, Named, Given, Learned, Round, name_of, row_at}
 use Rattle.hint_log.specs.declared.names.Name.{Name}
 use Rattle.hint_log.specs.declared.names.Name.TheVariants.{Selector, Pair}
 use Rattle.hint_log.specs.declared.origins.Origin.{Origin}
 use Rattle.hint_log.specs.declared.origins.Origin.TheVariants.{Instance}
 use Rattle.hint_log.specs.Conditions.{AreLogged, IsNewName, HasSides}
 use Rattle.hint_log.specs.Deciding.{KeepsSelectors, DecidesFalse, IsInstance}
-use Rattle.hint_log.specs.Entries.{name_of, row_at}
 use Rattle.hint_log.specs.Growth.{Each}
 use Rattle.hint_log.specs.Naming.{numbered_from_one, AreNamedAs, rows_of, on_arbiter}
 use Rattle.hint_log.specs.Origins.{IsOriginsClause}

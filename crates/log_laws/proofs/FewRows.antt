@@ -3,9 +3,7 @@ use Rattle.std.proofs.Common.{◌≡◌, ℕ, zero, suc, ◌+◌, ◌^◌, ◌�
 use Rattle.std.specs.List.{Contains}
 use Rattle.std.proofs.lemmas.List.Elements.{Contains-append_left, Contains-push}
 use Rattle.dq_lits.specs.Formula.{Dqbf}
-use Rattle.hint_log.specs.Entries.{rounds_of}
-use Rattle.hint_log.specs.Entries.{Entry}
-use Rattle.hint_log.specs.Entries.{Named, Given, Learned, Answer, Round, Begun}
+use Rattle.hint_log.specs.Entries.{rounds_of, Entry, Named, Given, Learned, Answer, Round, Begun}
 use Rattle.hint_log.specs.Growth.{Each}
 use Rattle.hint_log.specs.Naming.{rows_of}
 use Rattle.hint_log.specs.ProductiveLog.{RefutesNewRow}
@@ -84,13 +82,10 @@ newest_first (Begun live ∷ es) = newest_first es
 rows_among : (es : List Entry) (row : List Bool) → Among row (newest_first es) → Contains (rows_of es) row
 rows_among [] row h = absurd h
 rows_among (Named v n ∷ es) row h = rows_among es row h
-rows_among (Given origin c ∷ es) row h = rows_among es row h
-rows_among (Learned c hints ∷ es) row h = rows_among es row h
-rows_among (Answer c hints ∷ es) row h = rows_among es row h
 rows_among (Round r values j ∷ es) row (inl is) = subst (λ x. Contains (rows_of es ++ r ∷ []) x) is
     (Contains-push (rows_of es) r)
-rows_among (Begun live ∷ es) row h = rows_among es row h
 rows_among (Round r values j ∷ es) row (inr h) = Contains-append_left (rows_of es) (r ∷ []) row (rows_among es row h)
+rows_among (_ ∷ es) row h = rows_among es row h
 
 -- a round has a row of this length that wasn't tried
 abbrev pub HasNewRow : ℕ → List Entry → Entry → Type 0
@@ -99,34 +94,22 @@ HasNewRow n earlier _ = Unit {0}
 
 pub has_new_row : (f : Dqbf) (n : ℕ) → length f.universals ≡ n → (earlier : List Entry) (e : Entry) →
     RefutesNewRow f earlier e → HasNewRow n earlier e
-has_new_row f n same earlier (Named v m) h = tt
-has_new_row f n same earlier (Given origin c) h = tt
-has_new_row f n same earlier (Learned c hints) h = tt
-has_new_row f n same earlier (Answer c hints) h = tt
 has_new_row f n same earlier (Round row values j) h = (h.row_length ∙ same, h.untried)
-has_new_row f n same earlier (Begun live) h = tt
+has_new_row f n same earlier _ h = tt
 
 rows_distinct : (n : ℕ) (es : List Entry) → Each (HasNewRow n) es → AreDistinct n (newest_first es)
 rows_distinct n [] h = tt
-rows_distinct n (Named v m ∷ es) h = rows_distinct n es h.1
-rows_distinct n (Given origin c ∷ es) h = rows_distinct n es h.1
-rows_distinct n (Learned c hints ∷ es) h = rows_distinct n es h.1
-rows_distinct n (Answer c hints ∷ es) h = rows_distinct n es h.1
 rows_distinct n (Round row values j ∷ es) h = (
   h.0.0,
   (λ inside. h.0.1 (rows_among es row inside)),
   rows_distinct n es h.1,
 )
-rows_distinct n (Begun live ∷ es) h = rows_distinct n es h.1
+rows_distinct n (_ ∷ es) h = rows_distinct n es h.1
 
 rounds_counted : (es : List Entry) → length (newest_first es) ≡ rounds_of es
 rounds_counted [] = refl
-rounds_counted (Named v n ∷ es) = rounds_counted es
-rounds_counted (Given origin c ∷ es) = rounds_counted es
-rounds_counted (Learned c hints ∷ es) = rounds_counted es
-rounds_counted (Answer c hints ∷ es) = rounds_counted es
 rounds_counted (Round row values j ∷ es) = let r = rounds_counted es in omega (arith, r)
-rounds_counted (Begun live ∷ es) = rounds_counted es
+rounds_counted (_ ∷ es) = rounds_counted es
 
 pub few_by_rows : (n : ℕ) (entries : List Entry) → Each (HasNewRow n) entries → rounds_of entries ≤ 2 ^ n
 few_by_rows n entries rounds = subst (λ k. k ≤ 2 ^ n) (rounds_counted entries)

@@ -5,12 +5,9 @@ use Rattle.std.specs.Option.{option_map}
 use Rattle.std.proofs.lemmas.Bool.{eq-eqb}
 use Rattle.list_laws.proofs.Members.{element_at}
 use Rattle.dq_lits.specs.Literal.{Literal, variable_of, is_negative}
-use Rattle.dq_lits.specs.Formula.{Existential}
-use Rattle.hint_log.specs.Entries.{Entry}
+use Rattle.dq_lits.specs.Formula.{Existential, Dqbf}
+use Rattle.hint_log.specs.Entries.{Entry, has_id, count, numbered, name_of, Given, Answer}
 use Rattle.hint_log.specs.declared.names.Name.{Name}
-use Rattle.hint_log.specs.Entries.{has_id, count, numbered, name_of}
-use Rattle.hint_log.specs.Entries.{Given, Answer}
-use Rattle.dq_lits.specs.Formula.{Dqbf}
 use Rattle.hint_log.specs.Conditions.{MayFollow}
 use Rattle.hint_log.specs.ProductiveLog.{MatchesOrigin, IsDerivedByHints}
 use Rattle.log_laws.specs.Meaning.{IsSoundLog, IsSoundAnswer}

@@ -3,12 +3,10 @@ use Rattle.std.proofs.Common.{◌≡◌, ◌≢◌, ℕ, ◌≤◌, Bool, true, 
 use Rattle.std.proofs.lemmas.Bool.{false≢true, eqb-true}
 use Rattle.dq_lits.specs.Literal.{Literal, negative}
 use Rattle.dq_lits.specs.Formula.{Dqbf}
-use Rattle.hint_log.specs.Entries.{ProofLog, with_entry, is_round, is_beginning, count, name_of}
-use Rattle.hint_log.specs.Entries.{Entry}
-use Rattle.hint_log.specs.Entries.{Named, Given, Learned, Answer, Round, Begun}
+use Rattle.hint_log.specs.Entries.{ProofLog, with_entry, is_round, is_beginning, count, name_of, Entry, Named, Given, Learned, Answer, Round, Begun}
 use Rattle.hint_log.specs.declared.names.Name.{Name}
 use Rattle.hint_log.specs.declared.origins.Origin.{Origin}
-use Rattle.hint_log.specs.declared.origins.Origin.TheVariants.{Instance, Gate, Fault, Copy, Link, TermGate, Differ}
+use Rattle.hint_log.specs.declared.origins.Origin.TheVariants.{Fault}
 use Rattle.hint_log.specs.Growth.{Each, EachOf, Grew}
 use Rattle.hint_log.specs.Live.{live_numbers, before_beginning}
 use Rattle.hint_log.specs.Naming.{rows_of}
@@ -46,52 +44,34 @@ module _ (f : Dqbf) (engine : Engine) (group : ℕ) (silent : Bool) (old : List 
   Added earlier e = IsAddedBy f engine group silent old earlier e
 
   pub no_round : (earlier : List Entry) (e : Entry) → Added earlier e → is_round e ≡ false
-  no_round earlier (Named v n) h = refl
-  no_round earlier (Given origin c) h = refl
-  no_round earlier (Learned c hints) h = refl
-  no_round earlier (Answer c hints) h = refl
   no_round earlier (Round row values j) h = absurd h
   no_round earlier (Begun live) h = absurd h
+  no_round earlier _ h = refl
 
   pub rightly_given : (earlier : List Entry) (e : Entry) → Added earlier e → MatchesOrigin f earlier e
   rightly_given earlier (Named v n) h = h.rightly
   rightly_given earlier (Given origin c) h = h.matches_origin
-  rightly_given earlier (Learned c hints) h = tt
-  rightly_given earlier (Answer c hints) h = tt
-  rightly_given earlier (Round row values j) h = tt
-  rightly_given earlier (Begun live) h = tt
+  rightly_given earlier _ h = tt
 
   pub first_of_origin : (earlier : List Entry) (e : Entry) → Added earlier e → IsNotRepeated earlier e
-  first_of_origin earlier (Named v n) h = tt
   first_of_origin earlier (Given origin c) h = h.not_repeated
-  first_of_origin earlier (Learned c hints) h = tt
-  first_of_origin earlier (Answer c hints) h = tt
-  first_of_origin earlier (Round row values j) h = tt
-  first_of_origin earlier (Begun live) h = tt
+  first_of_origin earlier _ h = tt
 
   pub real_round : (earlier : List Entry) (e : Entry) → Added earlier e → RefutesNewRow f earlier e
-  real_round earlier (Named v n) h = tt
-  real_round earlier (Given origin c) h = tt
-  real_round earlier (Learned c hints) h = tt
-  real_round earlier (Answer c hints) h = tt
   real_round earlier (Round row values j) h = absurd h
   real_round earlier (Begun live) h = absurd h
+  real_round earlier _ h = tt
 
   pub modelled : (earlier : List Entry) (e : Entry) → Added earlier e → FollowsModel f earlier e
-  modelled earlier (Named v n) h = tt
-  modelled earlier (Given origin c) h = tt
-  modelled earlier (Learned c hints) h = tt
-  modelled earlier (Answer c hints) h = tt
   modelled earlier (Round row values j) h = absurd h
   modelled earlier (Begun live) h = absurd h
+  modelled earlier _ h = tt
 
   pub undecided : silent ≡ true → (earlier : List Entry) (e : Entry) → Added earlier e → DecidesNothing f earlier e
-  undecided s earlier (Named v n) h = tt
-  undecided s earlier (Given origin c) h = tt
-  undecided s earlier (Learned c hints) h = tt
   undecided s earlier (Answer c hints) h = h s
   undecided s earlier (Round row values j) h = absurd h
   undecided s earlier (Begun live) h = absurd h
+  undecided s earlier _ h = tt
 
   own_name : (other : Engine) (o : Option Engine) → same_engine other engine ≡ false → (o ≡ None) ⊎ (o ≡ Some engine) →
       is_engine other o ≡ false
@@ -104,19 +84,16 @@ module _ (f : Dqbf) (engine : Engine) (group : ℕ) (silent : Bool) (old : List 
   foreign other differ earlier (Given origin c) h = ap (same_engine other) h.own ∙ differ
   foreign other differ earlier (Learned c hints) h = refl
   foreign other differ earlier (Answer c hints) h = refl
-  foreign other differ earlier (Round row values j) h = absurd h
-  foreign other differ earlier (Begun live) h = absurd h
+  foreign other differ earlier _ h = absurd h
 
   -- names stay
   pub name_kept : (v : ℕ) (n : Name) (more : List Entry) → EachOf Added more old → name_of old v ≡ Some n →
       name_of (more ++ old) v ≡ Some n
   name_kept v n [] h is = is
   name_kept v n (Named w m ∷ more) h is = search (arith, (name_kept v n more h.1 is), eqb-true)
-  name_kept v n (Given origin c ∷ more) h is = name_kept v n more h.1 is
-  name_kept v n (Learned c hints ∷ more) h is = name_kept v n more h.1 is
-  name_kept v n (Answer c hints ∷ more) h is = name_kept v n more h.1 is
   name_kept v n (Round row values j ∷ more) h is = absurd h.0
   name_kept v n (Begun live ∷ more) h is = absurd h.0
+  name_kept v n (_ ∷ more) h is = name_kept v n more h.1 is
 
   in_one_group : (g mine : ℕ) (c : List Literal) → IsInGroup mine c → IsInGroup g c → mine ≡ g
   in_one_group g mine c a b = let e : negative mine ∷ a.0 ≡ negative g ∷ b.0 = sym a.1 ∙ b.1 in cc
@@ -124,73 +101,47 @@ module _ (f : Dqbf) (engine : Engine) (group : ℕ) (silent : Bool) (old : List 
   -- no clause is given to another engine's group
   pub own_given : (other : Engine) (mine : ℕ) (n : Name) → mine ≢ group → name_of old mine ≡ Some n →
       (earlier : List Entry) (e : Entry) → Added earlier e → IsOwnGiven f other mine earlier e
-  own_given other mine n apart named earlier (Named v m) h = tt
   own_given other mine n apart named earlier (Given origin c) h = search (arith, in_one_group)
-  own_given other mine n apart named earlier (Learned c hints) h = tt
-  own_given other mine n apart named earlier (Answer c hints) h = tt
-  own_given other mine n apart named earlier (Round row values j) h = tt
-  own_given other mine n apart named earlier (Begun live) h = tt
+  own_given other mine n apart named earlier _ h = tt
 
   pub no_beginning : (earlier : List Entry) (e : Entry) → Added earlier e → is_beginning e ≡ false
-  no_beginning earlier (Named v n) h = refl
-  no_beginning earlier (Given origin c) h = refl
-  no_beginning earlier (Learned c hints) h = refl
-  no_beginning earlier (Answer c hints) h = refl
-  no_beginning earlier (Round row values j) h = refl
   no_beginning earlier (Begun live) h = absurd h
+  no_beginning earlier _ h = refl
 
   pub live_kept : (more : List Entry) → EachOf Added more old → live_numbers (more ++ old) ≡ live_numbers old
   live_kept [] h = refl
-  live_kept (Named v n ∷ more) h = live_kept more h.1
-  live_kept (Given origin c ∷ more) h = live_kept more h.1
-  live_kept (Learned c hints ∷ more) h = live_kept more h.1
-  live_kept (Answer c hints ∷ more) h = live_kept more h.1
   live_kept (Round row values j ∷ more) h = absurd h.0
   live_kept (Begun live ∷ more) h = absurd h.0
+  live_kept (_ ∷ more) h = live_kept more h.1
 
   pub before_kept : (more : List Entry) → EachOf Added more old → before_beginning (more ++ old) ≡ before_beginning old
   before_kept [] h = refl
-  before_kept (Named v n ∷ more) h = before_kept more h.1
-  before_kept (Given origin c ∷ more) h = before_kept more h.1
-  before_kept (Learned c hints ∷ more) h = before_kept more h.1
-  before_kept (Answer c hints ∷ more) h = before_kept more h.1
   before_kept (Round row values j ∷ more) h = absurd h.0
   before_kept (Begun live ∷ more) h = absurd h.0
+  before_kept (_ ∷ more) h = before_kept more h.1
 
   pub rows_kept : (more : List Entry) → EachOf Added more old → rows_of (more ++ old) ≡ rows_of old
   rows_kept [] h = refl
-  rows_kept (Named v n ∷ more) h = rows_kept more h.1
-  rows_kept (Given origin c ∷ more) h = rows_kept more h.1
-  rows_kept (Learned c hints ∷ more) h = rows_kept more h.1
-  rows_kept (Answer c hints ∷ more) h = rows_kept more h.1
   rows_kept (Round row values j ∷ more) h = absurd h.0
   rows_kept (Begun live ∷ more) h = absurd h.0
+  rows_kept (_ ∷ more) h = rows_kept more h.1
 
 is_fault_of : (engine : Engine) (origin : Origin) → same_engine engine circuits ≡ false →
     origin_engine origin ≡ engine → is_fault origin ≡ false
-is_fault_of engine (Instance k j) h e = refl
-is_fault_of engine (Gate v i) h e = refl
 is_fault_of engine (Fault j i leaf) h e = absurd (false≢true (sym h ∙ ap (λ x. same_engine x circuits) (sym e)))
-is_fault_of engine (Copy side j) h e = refl
-is_fault_of engine (Link v i) h e = refl
-is_fault_of engine (TermGate v i) h e = refl
-is_fault_of engine (Differ y leaf part) h e = refl
+is_fault_of engine _ h e = refl
 
 -- other engines give no faults
 faults_kept : (f : Dqbf) (engine : Engine) → same_engine engine circuits ≡ false →
     (group : ℕ) (silent : Bool) (old start more : List Entry) →
     EachOf (IsAddedBy f engine group silent old) more start → fault_groups (more ++ start) ≡ fault_groups start
 faults_kept f engine other group silent old start [] h = refl
-faults_kept f engine other group silent old start (Named v n ∷ more) h =
-    faults_kept f engine other group silent old start more h.1
 faults_kept f engine other group silent old start (Given origin c ∷ more) h =
     rw (is_fault_of engine origin other h.0.own) (faults_kept f engine other group silent old start more h.1)
-faults_kept f engine other group silent old start (Learned c hints ∷ more) h =
-    faults_kept f engine other group silent old start more h.1
-faults_kept f engine other group silent old start (Answer c hints ∷ more) h =
-    faults_kept f engine other group silent old start more h.1
 faults_kept f engine other group silent old start (Round row values j ∷ more) h = absurd h.0
 faults_kept f engine other group silent old start (Begun live ∷ more) h = absurd h.0
+faults_kept f engine other group silent old start (_ ∷ more) h =
+    faults_kept f engine other group silent old start more h.1
 
 pub leaves_rest : EnginesLeaveRest
 leaves_rest f engine group silent old new grew =

@@ -12,12 +12,10 @@ use Rattle.dq_lits.specs.Henkin.{MatrixHolds}
 use Rattle.dq_lits.specs.Skolem.{OutputFunction, AreSkolemFunctions}
 use Rattle.dq_lits.proofs.LiftedExpansion.{literal_true-agree}
 use Rattle.dq_lits.proofs.FormulaVariables.{find_sound}
-use Rattle.hint_log.specs.Conditions.{is_circuit_name, HasSides}
-use Rattle.hint_log.specs.Entries.{name_of}
-use Rattle.hint_log.specs.Entries.{Entry}
-use Rattle.hint_log.specs.Entries.{Named, Given, Learned, Answer, Round, Begun}
+use Rattle.hint_log.specs.Conditions.{is_circuit_name, HasSides, MayFollow}
+use Rattle.hint_log.specs.Entries.{name_of, Entry, Named, Given, Learned, Answer, Round, Begun}
 use Rattle.hint_log.specs.declared.names.Name.{Name}
-use Rattle.hint_log.specs.declared.names.Name.TheVariants.{Selector, Pair, Input, And, Bad, Copy as CopyOf, Term}
+use Rattle.hint_log.specs.declared.names.Name.TheVariants.{Input, And}
 use Rattle.hint_log.specs.declared.origins.Leaf.{Leaf}
 use Rattle.hint_log.specs.declared.origins.Leaf.TheVariants.{Constant, Literal as LeafLiteral}
 use Rattle.hint_log.specs.declared.origins.Origin.{Origin}
@@ -25,7 +23,6 @@ use Rattle.hint_log.specs.declared.origins.Origin.TheVariants.{Instance, Gate, F
 use Rattle.hint_log.specs.Growth.{Each}
 use Rattle.hint_log.specs.Naming.{by_universality}
 use Rattle.hint_log.specs.Origins.{matrix_literal, IsLeafOf, IsFaultRest, IsOriginsClause}
-use Rattle.hint_log.specs.Conditions.{MayFollow}
 use Rattle.hint_log.specs.ProductiveLog.{MatchesOrigin}
 use Rattle.hint_log.specs.Deciding.{ReachesGiven, IsFaultLeaf, ReadsInput, itself, left, right, LeafReads, DecidesTrue}
 use Rattle.log_laws.specs.Circuits.{name_value, value_in, leaf_value, circuit_value, existential_bit, by_bits}
@@ -46,18 +43,9 @@ MatchesInGroup f g earlier _ = Unit {0}
 
 pub matches_in_group : (f : Dqbf) (g : ℕ) (earlier : List Entry) (e : Entry) → MatchesOrigin f earlier e →
     MatchesInGroup f g earlier e
-matches_in_group f g earlier (Named w n) h = tt
-matches_in_group f g earlier (Given (Instance k j) c) h = tt
-matches_in_group f g earlier (Given (Gate w i) c) h = tt
 matches_in_group f g earlier (Given (Fault j i leaf) c) h = λ inside. h
-matches_in_group f g earlier (Given (Copy side j) c) h = tt
-matches_in_group f g earlier (Given (Link w i) c) h = tt
-matches_in_group f g earlier (Given (TermGate w i) c) h = tt
-matches_in_group f g earlier (Given (Differ y out part) c) h = tt
-matches_in_group f g earlier (Learned c hints) h = tt
-matches_in_group f g earlier (Answer c hints) h = tt
-matches_in_group f g earlier (Round row values j) h = tt
-matches_in_group f g earlier (Begun live) h = tt
+matches_in_group f g earlier (Given _ c) h = tt
+matches_in_group f g earlier _ h = tt
 
 abbrev is_on : ℕ → Option ℕ → Bool
 is_on v None = false
@@ -100,18 +88,9 @@ is_on_there v o h = ap (is_on v) h ∙ eq-eqb v v refl
 entry_leaf_is : (f : Dqbf) (g v : ℕ) (e : Entry) (leaf : Leaf) → entry_leaf f g v e ≡ Some leaf →
     (j : ℕ) × (i : ℕ) × (c : List Literal) × (e ≡ Given (Fault j i leaf) c) × (is_in_group g c ≡ true) ×
     (option_map variable_of (matrix_literal f j i) ≡ Some v)
-entry_leaf_is f g v (Named w n) leaf h = cc
-entry_leaf_is f g v (Given (Instance k j) c) leaf h = cc
-entry_leaf_is f g v (Given (Gate w i) c) leaf h = cc
 entry_leaf_is f g v (Given (Fault j i other) c) leaf h = search (arith, and_parts, on_is)
-entry_leaf_is f g v (Given (Copy side j) c) leaf h = cc
-entry_leaf_is f g v (Given (Link w i) c) leaf h = cc
-entry_leaf_is f g v (Given (TermGate w i) c) leaf h = cc
-entry_leaf_is f g v (Given (Differ y out part) c) leaf h = cc
-entry_leaf_is f g v (Learned c hints) leaf h = cc
-entry_leaf_is f g v (Answer c hints) leaf h = cc
-entry_leaf_is f g v (Round row values j) leaf h = cc
-entry_leaf_is f g v (Begun live) leaf h = cc
+entry_leaf_is f g v (Given _ c) leaf h = cc
+entry_leaf_is f g v _ leaf h = cc
 
 pub in_group : (g h : ℕ) (c rest : List Literal) → c ≡ negative h ∷ rest → is_in_group g c ≡ true → g ≡ h
 in_group g h c rest is inside = eqb-true g h (ap (is_in_group g) (sym is) ∙ inside)
@@ -164,11 +143,7 @@ module _ (p q : Assignment) (bad : ℕ → Bool) where
     value_same : (es : List Entry) (v : ℕ) → value_in p bad es v ≡ value_in q bad es v
     value_same [] v = refl
     value_same (Named w n ∷ es) v = search (arith, (value_same es), both_same)
-    value_same (Given origin c ∷ es) v = value_same es v
-    value_same (Learned c hints ∷ es) v = value_same es v
-    value_same (Answer c hints ∷ es) v = value_same es v
-    value_same (Round row values j ∷ es) v = value_same es v
-    value_same (Begun live ∷ es) v = value_same es v
+    value_same (_ ∷ es) v = value_same es v
 
     leaf_same : (es : List Entry) (leaf : Leaf) → leaf_value (value_in p bad es) leaf ≡ leaf_value
         (value_in q bad es) leaf
@@ -195,15 +170,11 @@ module _ (p q : Assignment) (bad : ℕ → Bool) where
               value_in p bad es (variable_of k) ≡ value_in q bad es (variable_of k)) →
               (o : Name) → HasSides es o → is_circuit_name (Some o) ≡ true → name_of all (variable_of l) ≡ Some o →
               name_value p bad (value_in p bad es) o ≡ name_value q bad (value_in q bad es) o
-          by_name later (Selector g) s h there = refl
-          by_name later (Pair k y) s h there = refl
           by_name later (Input x) s h there = agree x (itself l x there)
           by_name later (And a b) s h there = both_same (value_in p bad es) (value_in q bad es) a b
               (later a s.0 (λ x r. agree x (left l a b x there r)))
               (later b s.1 (λ x r. agree x (right l a b x there r)))
-          by_name later (Bad g j) s h there = refl
-          by_name later (CopyOf side u) s h there = refl
-          by_name later (Term a b) s h there = refl
+          by_name later _ s h there = refl
 
           by_bit : ((k : Literal) → is_circuit_name (name_of es (variable_of k)) ≡ true → AgreesOn k →
               value_in p bad es (variable_of k) ≡ value_in q bad es (variable_of k)) →

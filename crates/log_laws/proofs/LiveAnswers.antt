@@ -6,7 +6,7 @@ use Rattle.dq_lits.specs.Formula.{Dqbf}
 use Rattle.dq_lits.specs.Expansion.{IsExpansionUnsatisfiable}
 use Rattle.hint_log.specs.Conditions.{MayFollow}
 use Rattle.hint_log.specs.Deciding.{ReachesGiven, IsInstance, IsCircuitGiven, DecidesFalse, DecidesTrue, IsUndecided}
-use Rattle.hint_log.specs.Entries.{Entry, Named, Given, Learned, Answer, Round, Begun, name_of}
+use Rattle.hint_log.specs.Entries.{Entry, Named, Given, Answer, Begun, name_of}
 use Rattle.hint_log.specs.Growth.{Each}
 use Rattle.hint_log.specs.Live.{live_numbers, before_beginning, formula_of, formula_by, live_formula}
 use Rattle.hint_log.specs.Naming.{numbered_from_one, rows_of}
@@ -15,7 +15,7 @@ use Rattle.hint_log.specs.ProductiveLog.{MatchesOrigin, IsDerivedByHints}
 use Rattle.hint_log.specs.ProductiveSession.{IsSinceBeginning, MatchesLiveOrigin, RefutesNewLiveRow, DecidesLiveFalse, DecidesLiveTrue, IsUndecidedSince}
 use Rattle.hint_log.specs.declared.names.Name.{Name}
 use Rattle.hint_log.specs.declared.origins.Origin.{Origin}
-use Rattle.hint_log.specs.declared.origins.Origin.TheVariants.{Instance, Gate, Fault, Copy, Link, TermGate, Differ}
+use Rattle.hint_log.specs.declared.origins.Origin.TheVariants.{Instance, Gate, Fault}
 use Rattle.hint_log.specs.declared.origins.Leaf.{Leaf}
 use Rattle.log_laws.specs.Meaning.{IsSoundAnswer}
 use Rattle.log_laws.specs.Sessions.{SessionRoundsAreFew, PlainLogsAreSessions}
@@ -75,23 +75,13 @@ module _ (all : Dqbf) (earlier : List Entry) (clause : List Literal) (hints : Li
           earlier ≡ more ++ Given origin c ∷ before → IsInstance origin → IsOriginsClause all before origin c
       origins more before (Instance k j) c at what = each_at (MatchesLiveOrigin all) more before
           (Given (Instance k j) c) (subst (Each (MatchesLiveOrigin all)) at given)
-      origins more before (Gate v i) c at what = absurd what
-      origins more before (Fault j i leaf) c at what = absurd what
-      origins more before (Copy side j) c at what = absurd what
-      origins more before (Link v i) c at what = absurd what
-      origins more before (TermGate v i) c at what = absurd what
-      origins more before (Differ y leaf part) c at what = absurd what
+      origins more before _ c at what = absurd what
 
       among : (origin : Origin) (c : List Literal) → ReachesGiven earlier hints origin c → IsInstance origin →
           IsInstanceAmong all (formula_of all live).matrix origin
       among (Instance k j) c reached what = λ clause at. live_clause all live j clause
           (decides.live live k j c is reached) at
-      among (Gate v i) c reached what = absurd what
-      among (Fault j i leaf) c reached what = absurd what
-      among (Copy side j) c reached what = absurd what
-      among (Link v i) c reached what = absurd what
-      among (TermGate v i) c reached what = absurd what
-      among (Differ y leaf part) c reached what = absurd what
+      among _ c reached what = absurd what
 
 -- what stood before a group that is since the last beginning, is behind it
 pub same_search : (more before : List Entry) (origin : Origin) (c : List Literal) (g : ℕ) (n : Name) →
@@ -99,20 +89,12 @@ pub same_search : (more before : List Entry) (origin : Origin) (c : List Literal
     → IsSinceBeginning (more ++ Given origin c ∷ before) g →
     live_numbers (more ++ Given origin c ∷ before) ≡ live_numbers before
 same_search [] before origin c g n lawful named since = refl
-same_search (Named v m ∷ more) before origin c g n lawful named since =
-    same_search more before origin c g n lawful.1 named since
-same_search (Given o d ∷ more) before origin c g n lawful named since =
-    same_search more before origin c g n lawful.1 named since
-same_search (Learned d h ∷ more) before origin c g n lawful named since =
-    same_search more before origin c g n lawful.1 named since
-same_search (Answer d h ∷ more) before origin c g n lawful named since =
-    same_search more before origin c g n lawful.1 named since
-same_search (Round r b j ∷ more) before origin c g n lawful named since =
-    same_search more before origin c g n lawful.1 named since
 same_search (Begun live ∷ more) before origin c g n lawful named since =
     let stays : name_of (more ++ Given origin c ∷ before) g ≡ Some n = search (arith, name_stays) in
     let none : name_of (more ++ Given origin c ∷ before) g ≡ None = since in
     cc
+same_search (_ ∷ more) before origin c g n lawful named since =
+    same_search more before origin c g n lawful.1 named since
 
 -- a gate's clause is its origin's by any formula
 pub gate_of_any : (f g : Dqbf) (before : List Entry) (v i : ℕ) (c : List Literal) →
@@ -146,15 +128,11 @@ module _ (all : Dqbf) (earlier : List Entry) (clause : List Literal) (hints : Li
       by : (more before : List Entry) (origin : Origin) (c : List Literal) → earlier ≡ more ++ Given origin c ∷ before →
           IsCircuitGiven decides.decides.rests.group origin c
           → IsOriginsClause (live_formula all earlier) before origin c
-      by more before (Instance k j) c at mine = absurd mine
       by more before (Gate v i) c at mine = gate_of_any all (live_formula all earlier) before v i c
           (each_at (MatchesLiveOrigin all) more before (Given (Gate v i) c)
           (subst (Each (MatchesLiveOrigin all)) at given))
       by more before (Fault j i leaf) c at mine = fault_of_search more before j i leaf c mine.0 at mine.1
-      by more before (Copy side j) c at mine = absurd mine
-      by more before (Link v i) c at mine = absurd mine
-      by more before (TermGate v i) c at mine = absurd mine
-      by more before (Differ y leaf part) c at mine = absurd mine
+      by more before _ c at mine = absurd mine
 
   -- the same of all faults of the group
   faults_of_group : (more es : List Entry) → earlier ≡ more ++ es →
@@ -172,35 +150,22 @@ module _ (all : Dqbf) (earlier : List Entry) (clause : List Literal) (hints : Li
 
       by : (e : Entry) → earlier ≡ more ++ e ∷ es → MatchesInGroup
           (live_formula all earlier) decides.decides.rests.group es e
-      by (Named v n) at' = tt
-      by (Given (Instance k j) c) at' = tt
-      by (Given (Gate v i) c) at' = tt
       by (Given (Fault j i leaf) c) at' = λ inside.
           let here : IsOriginsClause (live_formula all es) es (Fault j i leaf) c =
           each_at (MatchesLiveOrigin all) more es (Given (Fault j i leaf) c)
           (subst (Each (MatchesLiveOrigin all)) at' given) in
           let mine = in_mine decides.decides.rests.group c inside (Fault j i leaf) here in
           fault_of_search more es j i leaf c mine.0 at' mine.1
-      by (Given (Copy side j) c) at' = tt
-      by (Given (Link v i) c) at' = tt
-      by (Given (TermGate v i) c) at' = tt
-      by (Given (Differ y leaf part) c) at' = tt
-      by (Learned c h) at' = tt
-      by (Answer c h) at' = tt
-      by (Round row values j) at' = tt
-      by (Begun live) at' = tt
+      by (Given _ c) at' = tt
+      by _ at' = tt
 
   pub live_faults : Each (MatchesInGroup (live_formula all earlier) decides.decides.rests.group) earlier
   live_faults = faults_of_group [] earlier refl
 
 -- where no search began
 no_earlier : (e : Entry) (es : List Entry) → live_numbers (e ∷ es) ≡ None → live_numbers es ≡ None
-no_earlier (Named v n) es h = h
-no_earlier (Given origin c) es h = h
-no_earlier (Learned c hints) es h = h
-no_earlier (Answer c hints) es h = h
-no_earlier (Round row values j) es h = h
 no_earlier (Begun live) es h = cc
+no_earlier _ es h = h
 
 each_plain : (P Q : List Entry → Entry → Type 0) → ((earlier : List Entry) (e : Entry) →
     live_numbers (e ∷ earlier) ≡ None → P earlier e → Q earlier e) → (es : List Entry) → live_numbers es ≡ None →
@@ -211,56 +176,35 @@ each_plain P Q weaker (e ∷ es) none h = (weaker es e none h.0, each_plain P Q 
 plain_origin : (all : Dqbf) (earlier : List Entry) (e : Entry) → live_numbers (e ∷ earlier) ≡ None →
     MatchesOrigin all earlier e → MatchesLiveOrigin all earlier e
 plain_origin all earlier (Named v n) none h = h
-plain_origin all earlier (Given (Instance k j) c) none h = h
-plain_origin all earlier (Given (Gate v i) c) none h = h
 plain_origin all earlier (Given (Fault j i leaf) c) none h = search arith
-plain_origin all earlier (Given (Copy side j) c) none h = h
-plain_origin all earlier (Given (Link v i) c) none h = h
-plain_origin all earlier (Given (TermGate v i) c) none h = h
-plain_origin all earlier (Given (Differ y leaf part) c) none h = h
-plain_origin all earlier (Learned c hints) none h = tt
-plain_origin all earlier (Answer c hints) none h = tt
-plain_origin all earlier (Round row values j) none h = tt
 plain_origin all earlier (Begun live) none h = cc
+plain_origin all earlier (Given _ c) none h = h
+plain_origin all earlier _ none h = tt
 
 origin_plain : (all : Dqbf) (earlier : List Entry) (e : Entry) → live_numbers (e ∷ earlier) ≡ None →
     MatchesLiveOrigin all earlier e → MatchesOrigin all earlier e
 origin_plain all earlier (Named v n) none h = h
-origin_plain all earlier (Given (Instance k j) c) none h = h
-origin_plain all earlier (Given (Gate v i) c) none h = h
 origin_plain all earlier (Given (Fault j i leaf) c) none h = search arith
-origin_plain all earlier (Given (Copy side j) c) none h = h
-origin_plain all earlier (Given (Link v i) c) none h = h
-origin_plain all earlier (Given (TermGate v i) c) none h = h
-origin_plain all earlier (Given (Differ y leaf part) c) none h = h
-origin_plain all earlier (Learned c hints) none h = tt
-origin_plain all earlier (Answer c hints) none h = tt
-origin_plain all earlier (Round row values j) none h = tt
 origin_plain all earlier (Begun live) none h = cc
+origin_plain all earlier (Given _ c) none h = h
+origin_plain all earlier _ none h = tt
 
 -- and nothing stands before a search
 none_before : (es : List Entry) → live_numbers es ≡ None → before_beginning es ≡ []
 none_before [] none = refl
-none_before (Named v n ∷ es) none = none_before es none
-none_before (Given origin c ∷ es) none = none_before es none
-none_before (Learned c hints ∷ es) none = none_before es none
-none_before (Answer c hints ∷ es) none = none_before es none
-none_before (Round row values j ∷ es) none = none_before es none
 none_before (Begun live ∷ es) none = cc
+none_before (_ ∷ es) none = none_before es none
 
 undecided_plain : (all : Dqbf) (es : List Entry) → live_numbers es ≡ None → IsUndecided all es → IsUndecidedSince all es
 undecided_plain all [] none u = tt
-undecided_plain all (Named v n ∷ es) none u = undecided_plain all es none u.1
-undecided_plain all (Given origin c ∷ es) none u = undecided_plain all es none u.1
-undecided_plain all (Learned c hints ∷ es) none u = undecided_plain all es none u.1
 undecided_plain all (Answer c hints ∷ es) none u = (
   (λ (d : DecidesLiveFalse es c hints). u.0.0 d.decides),
   (λ (d : DecidesLiveTrue all es c hints). u.0.1 (subst (λ o. DecidesTrue (formula_by all o) es c hints) none
       d.decides)),
   undecided_plain all es none u.1,
 )
-undecided_plain all (Round row values j ∷ es) none u = undecided_plain all es none u.1
 undecided_plain all (Begun live ∷ es) none u = cc
+undecided_plain all (_ ∷ es) none u = undecided_plain all es none u.1
 
 live_false : (es : List Entry) (c : List Literal) (hints : List ℕ) → live_numbers es ≡ None → DecidesFalse es c hints →
     DecidesLiveFalse es c hints
@@ -274,13 +218,10 @@ live_true all es c hints none d =
 
 plain_undecided : (all : Dqbf) (es : List Entry) → live_numbers es ≡ None → IsUndecidedSince all es → IsUndecided all es
 plain_undecided all [] none u = tt
-plain_undecided all (Named v n ∷ es) none u = (tt, plain_undecided all es none u)
-plain_undecided all (Given origin c ∷ es) none u = (tt, plain_undecided all es none u)
-plain_undecided all (Learned c hints ∷ es) none u = (tt, plain_undecided all es none u)
 plain_undecided all (Answer c hints ∷ es) none u =
     search (arith, live_false, live_true, (plain_undecided all es none u.2))
-plain_undecided all (Round row values j ∷ es) none u = (tt, plain_undecided all es none u)
 plain_undecided all (Begun live ∷ es) none u = cc
+plain_undecided all (_ ∷ es) none u = (tt, plain_undecided all es none u)
 
 pub plain_sessions : PlainLogsAreSessions
 plain_sessions all frames entries none =

@@ -12,9 +12,9 @@ use Rattle.hint_log.specs.Origins.{IsOriginsClause}
 use Rattle.hint_log.specs.ProductiveLog.{RefutesNewRow, FollowsModel, IsNotRepeated, IsRightlyNamed}
 use Rattle.hint_log.specs.ProductiveSession.{MatchesLiveOrigin, IsUndecidedSince, DecidesLiveFalse, DecidesLiveTrue}
 use Rattle.hint_log.specs.declared.names.Name.{Name}
-use Rattle.hint_log.specs.declared.names.Name.TheVariants.{Selector, Pair, Input, And, Bad, Copy as CopyOf, Term}
+use Rattle.hint_log.specs.declared.names.Name.TheVariants.{Input}
 use Rattle.hint_log.specs.declared.origins.Origin.{Origin}
-use Rattle.hint_log.specs.declared.origins.Origin.TheVariants.{Instance, Gate, Fault, Copy, Link, TermGate, Differ}
+use Rattle.hint_log.specs.declared.origins.Origin.TheVariants.{Gate, Fault}
 use Rattle.log_laws.specs.Engines.{Engine, circuits, IsInGroup, IsGivenBy, IsAddedBy}
 use Rattle.log_laws.specs.Sessions.{IsInOneOf, IsAddedLive, LeavesSession, EnginesLeaveSessions, CircuitsAddLive}
 use Rattle.log_laws.proofs.LargerLogs.{each_grown, live_kept}
@@ -29,69 +29,49 @@ module _ (all : Dqbf) (engine : Engine) (groups : List ℕ) (silent : Bool) (old
   right_origin earlier (Given origin c) h = h.matches_origin
   right_origin earlier (Learned c hints) h = tt
   right_origin earlier (Answer c hints) h = tt
-  right_origin earlier (Round row values j) h = absurd h
-  right_origin earlier (Begun live) h = absurd h
+  right_origin earlier _ h = absurd h
 
   no_row : (f : Dqbf) (earlier : List Entry) (e : Entry) → Added earlier e → RefutesNewRow f earlier e
-  no_row f earlier (Named v n) h = tt
-  no_row f earlier (Given origin c) h = tt
-  no_row f earlier (Learned c hints) h = tt
-  no_row f earlier (Answer c hints) h = tt
   no_row f earlier (Round row values j) h = absurd h
   no_row f earlier (Begun live) h = absurd h
+  no_row f earlier _ h = tt
 
   no_model : (f : Dqbf) (earlier : List Entry) (e : Entry) → Added earlier e → FollowsModel f earlier e
-  no_model f earlier (Named v n) h = tt
-  no_model f earlier (Given origin c) h = tt
-  no_model f earlier (Learned c hints) h = tt
-  no_model f earlier (Answer c hints) h = tt
   no_model f earlier (Round row values j) h = absurd h
   no_model f earlier (Begun live) h = absurd h
+  no_model f earlier _ h = tt
 
   first_given : (earlier : List Entry) (e : Entry) → Added earlier e → IsNotRepeated earlier e
-  first_given earlier (Named v n) h = tt
   first_given earlier (Given origin c) h = h.not_repeated
-  first_given earlier (Learned c hints) h = tt
-  first_given earlier (Answer c hints) h = tt
   first_given earlier (Round row values j) h = absurd h
   first_given earlier (Begun live) h = absurd h
+  first_given earlier _ h = tt
 
   undecided_since : silent ≡ true → (more : List Entry) → EachOf Added more old → IsUndecidedSince all old →
       IsUndecidedSince all (more ++ old)
   undecided_since s [] h u = u
-  undecided_since s (Named v n ∷ more) h u = undecided_since s more h.1 u
-  undecided_since s (Given origin c ∷ more) h u = undecided_since s more h.1 u
-  undecided_since s (Learned c hints ∷ more) h u = undecided_since s more h.1 u
   undecided_since s (Answer c hints ∷ more) h u = let both = h.0 s in (both.0, both.1, undecided_since s more h.1 u)
   undecided_since s (Round row values j ∷ more) h u = absurd h.0
   undecided_since s (Begun live ∷ more) h u = absurd h.0
+  undecided_since s (_ ∷ more) h u = undecided_since s more h.1 u
 
   same_rows : (more : List Entry) → EachOf Added more old → rows_of (more ++ old) ≡ rows_of old
   same_rows [] h = refl
-  same_rows (Named v n ∷ more) h = same_rows more h.1
-  same_rows (Given origin c ∷ more) h = same_rows more h.1
-  same_rows (Learned c hints ∷ more) h = same_rows more h.1
-  same_rows (Answer c hints ∷ more) h = same_rows more h.1
   same_rows (Round row values j ∷ more) h = absurd h.0
   same_rows (Begun live ∷ more) h = absurd h.0
+  same_rows (_ ∷ more) h = same_rows more h.1
 
   same_live : (more : List Entry) → EachOf Added more old → live_numbers (more ++ old) ≡ live_numbers old
   same_live [] h = refl
-  same_live (Named v n ∷ more) h = same_live more h.1
-  same_live (Given origin c ∷ more) h = same_live more h.1
-  same_live (Learned c hints ∷ more) h = same_live more h.1
-  same_live (Answer c hints ∷ more) h = same_live more h.1
   same_live (Round row values j ∷ more) h = absurd h.0
   same_live (Begun live ∷ more) h = absurd h.0
+  same_live (_ ∷ more) h = same_live more h.1
 
   same_before : (more : List Entry) → EachOf Added more old → before_beginning (more ++ old) ≡ before_beginning old
   same_before [] h = refl
-  same_before (Named v n ∷ more) h = same_before more h.1
-  same_before (Given origin c ∷ more) h = same_before more h.1
-  same_before (Learned c hints ∷ more) h = same_before more h.1
-  same_before (Answer c hints ∷ more) h = same_before more h.1
   same_before (Round row values j ∷ more) h = absurd h.0
   same_before (Begun live ∷ more) h = absurd h.0
+  same_before (_ ∷ more) h = same_before more h.1
 
   same_name : (v : ℕ) (n : Name) (more : List Entry) → EachOf Added more old → name_of old v ≡ Some n →
       name_of (more ++ old) v ≡ Some n
@@ -101,11 +81,9 @@ module _ (all : Dqbf) (engine : Engine) (groups : List ℕ) (silent : Bool) (old
         cond b (Some m) (name_of (more ++ old) v) ≡ Some n
     by_bit true e before = search (arith, eqb-true)
     by_bit false e before = before
-  same_name v n (Given origin c ∷ more) h is = same_name v n more h.1 is
-  same_name v n (Learned c hints ∷ more) h is = same_name v n more h.1 is
-  same_name v n (Answer c hints ∷ more) h is = same_name v n more h.1 is
   same_name v n (Round row values j ∷ more) h is = absurd h.0
   same_name v n (Begun live ∷ more) h is = absurd h.0
+  same_name v n (_ ∷ more) h is = same_name v n more h.1 is
 
 pub sessions_left : EnginesLeaveSessions
 sessions_left all engine groups silent old new grew =
@@ -127,13 +105,8 @@ sessions_left all engine groups silent old new grew =
 -- the universals of a search's formula are those of all
 rightly : (all : Dqbf) (o : Option (List ℕ)) (n : Name) → IsRightlyNamed (formula_by all o) n → IsRightlyNamed all n
 rightly all None n h = h
-rightly all (Some live) (Selector g) h = tt
-rightly all (Some live) (Pair k y) h = tt
 rightly all (Some live) (Input x) h = h
-rightly all (Some live) (And a b) h = tt
-rightly all (Some live) (Bad g j) h = tt
-rightly all (Some live) (CopyOf side v) h = tt
-rightly all (Some live) (Term a b) h = tt
+rightly all (Some live) _ h = tt
 
 module _ (all : Dqbf) (group : ℕ) (silent : Bool) (old : List Entry) where
   abbrev By : List Entry → Entry → Type 0
@@ -142,15 +115,11 @@ module _ (all : Dqbf) (group : ℕ) (silent : Bool) (old : List Entry) where
   origin_live : (more : List Entry) (origin : Origin) (c : List Literal) → EachOf By more old →
       IsGivenBy (live_formula all old) circuits group old (more ++ old) origin c
       → MatchesLiveOrigin all (more ++ old) (Given origin c)
-  origin_live more (Instance k j) c each h = let own = h.own in cc
   origin_live more (Gate v i) c each h = gate_of_any (live_formula all old) all (more ++ old) v i c h.matches_origin
   origin_live more (Fault j i leaf) c each h =
       let live = live_kept (live_formula all old) circuits group silent old more each in
       subst (λ o. IsOriginsClause (formula_by all o) (more ++ old) (Fault j i leaf) c) (sym live) h.matches_origin
-  origin_live more (Copy side j) c each h = let own = h.own in cc
-  origin_live more (Link v i) c each h = let own = h.own in cc
-  origin_live more (TermGate v i) c each h = let own = h.own in cc
-  origin_live more (Differ y leaf part) c each h = let own = h.own in cc
+  origin_live more _ c each h = let own = h.own in cc
 
   one_of : (c : List Literal) → (g : ℕ) × IsInGroup g c × ((g ≡ group) ⊎ (name_of old g ≡ None)) →
       IsInOneOf (group ∷ []) old c
@@ -173,8 +142,7 @@ module _ (all : Dqbf) (group : ℕ) (silent : Bool) (old : List Entry) where
         (λ (d : DecidesLiveTrue all (more ++ old) c hints). both.1
             (subst (λ o. DecidesTrue (formula_by all o) (more ++ old) c hints) live d.decides)),
       )
-  added_live more (Round row values j) each h = absurd h
-  added_live more (Begun live) each h = absurd h
+  added_live more _ each h = absurd h
 
   all_live : (more : List Entry) → EachOf By more old → EachOf
       (IsAddedLive all circuits (group ∷ []) silent old) more old

@@ -3,8 +3,7 @@ use Rattle.std.proofs.Common.{◌≡◌, true, List, [], ◌∷◌, length, refl
 use Rattle.std.proofs.lemmas.Bool.{leb-true}
 use Rattle.dq_lits.specs.Literal.{Literal, positive, negative}
 use Rattle.dq_lits.specs.Formula.{IsWellFormed}
-use Rattle.hint_log.specs.Entries.{Entry}
-use Rattle.hint_log.specs.Entries.{Given}
+use Rattle.hint_log.specs.Entries.{Entry, Given}
 use Rattle.hint_log.specs.declared.origins.Origin.{Origin}
 use Rattle.hint_log.specs.Growth.{Each}
 use Rattle.hint_log.specs.ProductiveLog.{IsNewLemma, RefutesNewRow, FollowsModel, IsNotRepeated, IsProductiveLog, is_fault, fault_groups, fault_room}

@@ -6,10 +6,8 @@ use Rattle.std.proofs.lemmas.Bool.{eqb-true, ne_eqb}
 use Rattle.std.proofs.lemmas.List.Elements.{Contains-get_or}
 use Rattle.dq_lits.specs.Literal.{Assignment, Literal, clause_true}
 use Rattle.dq_lits.specs.Derivation.{IsDerived}
-use Rattle.hint_log.specs.Entries.{has_id, count, last_id, numbered, clause_of, hints_of, clause_at, hints_at, name_of}
+use Rattle.hint_log.specs.Entries.{has_id, count, last_id, numbered, clause_of, hints_of, clause_at, hints_at, name_of, Entry, Named, Given, Learned, Answer, Round, Begun}
 use Rattle.hint_log.specs.Reached.{Reaches, itself, by_hint}
-use Rattle.hint_log.specs.Entries.{Entry}
-use Rattle.hint_log.specs.Entries.{Named, Given, Learned, Answer, Round, Begun}
 use Rattle.hint_log.specs.declared.names.Name.{Name}
 use Rattle.hint_log.specs.declared.origins.Origin.{Origin}
 use Rattle.hint_log.specs.Growth.{Each}
@@ -36,11 +34,7 @@ pub name_stays : (more old : List Entry) (v : ℕ) (n : Name) → Each MayFollow
     name_of (more ++ old) v ≡ Some n
 name_stays [] old v n lawful is = is
 name_stays (Named w m ∷ more) old v n lawful is = search (arith, (name_stays more old v n lawful.1 is), eqb-true)
-name_stays (Given origin c ∷ more) old v n lawful is = name_stays more old v n lawful.1 is
-name_stays (Learned c hints ∷ more) old v n lawful is = name_stays more old v n lawful.1 is
-name_stays (Answer c hints ∷ more) old v n lawful is = name_stays more old v n lawful.1 is
-name_stays (Round row values j ∷ more) old v n lawful is = name_stays more old v n lawful.1 is
-name_stays (Begun live ∷ more) old v n lawful is = name_stays more old v n lawful.1 is
+name_stays (_ ∷ more) old v n lawful is = name_stays more old v n lawful.1 is
 
 module _ (implied : LinesAreImplied) (all : List Entry) (first : List ℕ) (a : Assignment)
     (given_true : (earlier more : List Entry) (origin : Origin) (c : List Literal) →

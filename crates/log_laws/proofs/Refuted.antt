@@ -10,13 +10,11 @@ use Rattle.dq_lits.specs.Expansion.{row_assignment, agree_on, pair_number, pair_
 use Rattle.dq_lits.specs.Henkin.{restriction}
 use Rattle.dq_lits.proofs.Choices.{same_bits-refl}
 use Rattle.dq_lits.proofs.TrueClauses.{same_sign}
-use Rattle.hint_log.specs.Entries.{name_of, row_at, numbered, is_round, row_of, count}
-use Rattle.hint_log.specs.Entries.{Entry}
-use Rattle.hint_log.specs.Entries.{Named, Given, Learned, Answer, Round, Begun}
+use Rattle.hint_log.specs.Entries.{name_of, row_at, numbered, is_round, row_of, count, Entry, Given, Round}
 use Rattle.hint_log.specs.declared.names.Name.{Name}
 use Rattle.hint_log.specs.declared.names.Name.TheVariants.{Selector, Pair, Input, And, Bad, Copy as CopyOf, Term}
 use Rattle.hint_log.specs.declared.origins.Origin.{Origin}
-use Rattle.hint_log.specs.declared.origins.Origin.TheVariants.{Instance, Gate, Fault, Copy, Link, TermGate, Differ}
+use Rattle.hint_log.specs.declared.origins.Origin.TheVariants.{Instance}
 use Rattle.hint_log.specs.Growth.{Each}
 use Rattle.hint_log.specs.Naming.{numbered_from_one, named_literal, name_literal, rows_of, arbiter, on_arbiter}
 use Rattle.hint_log.specs.Origins.{IsInstanceRest, IsOriginsClause}
@@ -50,20 +48,12 @@ rows_more [] es = ([], sym (append-nil' (rows_of es))) where
   append-nil' : (xs : List (List Bool)) → xs ++ [] ≡ xs
   append-nil' [] = refl
   append-nil' (x ∷ xs) = ap (λ ys. x ∷ ys) (append-nil' xs)
-rows_more (Named v n ∷ more) es = rows_more more es
-rows_more (Given origin c ∷ more) es = rows_more more es
-rows_more (Learned c hints ∷ more) es = rows_more more es
-rows_more (Answer c hints ∷ more) es = rows_more more es
 rows_more (Round row values j ∷ more) es = let r = rows_more more es in
     (r.0 ++ row ∷ [], ap (λ rows. rows ++ row ∷ []) r.1 ∙ append_assoc (rows_of es) r.0 (row ∷ []))
-rows_more (Begun live ∷ more) es = rows_more more es
+rows_more (_ ∷ more) es = rows_more more es
 
 pub row_contained : (es : List Entry) (k : ℕ) (row : List Bool) → row_at es k ≡ Some row → Contains (rows_of es) row
 row_contained [] k row h = cc
-row_contained (Named v n ∷ es) k row h = row_contained es k row h
-row_contained (Given origin c ∷ es) k row h = row_contained es k row h
-row_contained (Learned c hints ∷ es) k row h = row_contained es k row h
-row_contained (Answer c hints ∷ es) k row h = row_contained es k row h
 row_contained (Round r values j ∷ es) k row h = by_bit (row_contained es k row) (k == count is_round es + 1) h where
   by_bit : (row_at es k ≡ Some row → Contains (rows_of es) row) → (b : Bool) →
       option_and_then row_of (cond b (Some (Round r values j)) (numbered is_round es k)) ≡ Some row →
@@ -71,7 +61,7 @@ row_contained (Round r values j ∷ es) k row h = by_bit (row_contained es k row
   by_bit before true h = let same : r ≡ row = cc in subst (λ x. Contains (rows_of es ++ x ∷ []) row) (sym same)
       (Contains-push (rows_of es) row)
   by_bit before false h = Contains-append_left (rows_of es) (r ∷ []) row (before h)
-row_contained (Begun live ∷ es) k row h = row_contained es k row h
+row_contained (_ ∷ es) k row h = row_contained es k row h
 
 module _ (f : Dqbf) (all : List Entry) (lawful : Each MayFollow all) (m : Assignment) where
   abbrev value : Assignment
@@ -148,12 +138,7 @@ module _ (f : Dqbf) (all : List Entry) (lawful : Each MayFollow all) (m : Assign
           or_true' : (x y : Bool) → y ≡ true → (x || y) ≡ true
           or_true' true y h = refl
           or_true' false y h = h
-    instance_true es more (Gate v i) c is what o = absurd what
-    instance_true es more (Fault j i leaf) c is what o = absurd what
-    instance_true es more (Copy side j) c is what o = absurd what
-    instance_true es more (Link v i) c is what o = absurd what
-    instance_true es more (TermGate v i) c is what o = absurd what
-    instance_true es more (Differ y leaf part) c is what o = absurd what
+    instance_true es more _ c is what o = absurd what
 
     selectors_false : (clause : List Literal) → AreNegatedSelectors all clause → clause_true value clause ≡ false
     selectors_false [] h = refl
@@ -179,12 +164,7 @@ refuted_among implied f matrix earlier clause hints sound selectors among m mode
 
 among_all : (f : Dqbf) (origin : Origin) → IsInstance origin → IsInstanceAmong f f.matrix origin
 among_all f (Instance k j) what = numbered_among f.matrix j
-among_all f (Gate v i) what = absurd what
-among_all f (Fault j i leaf) what = absurd what
-among_all f (Copy side j) what = absurd what
-among_all f (Link v i) what = absurd what
-among_all f (TermGate v i) what = absurd what
-among_all f (Differ y leaf part) what = absurd what
+among_all f _ what = absurd what
 
 pub refuted : LinesAreImplied → InstancesHaveNoModel
 refuted implied f earlier clause hints sound decides =

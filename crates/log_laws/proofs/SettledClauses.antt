@@ -7,8 +7,7 @@ use Rattle.dq_lits.specs.Derivation.{unit, stuck, holds, status_by, status_of}
 use Rattle.dq_lits.proofs.Truth.{same_literal-sound}
 use Rattle.dq_lits.proofs.HeldLiterals.{any_one, any_gives, left_among, holds_here, holds_later}
 use Rattle.dq_lits.proofs.SignedLiterals.{same_literal-refl, opposite-opposite}
-use Rattle.hint_log.specs.Entries.{Entry}
-use Rattle.hint_log.specs.Entries.{clause_at}
+use Rattle.hint_log.specs.Entries.{Entry, clause_at}
 use Rattle.hint_log.specs.ProductiveLog.{IsNewByPropagation}
 use Rattle.log_laws.specs.Meaning.{IsSettled}
 

@@ -11,20 +11,17 @@ use Rattle.dq_lits.specs.Formula.{Existential, Dqbf, declared, is_universal, exi
 use Rattle.dq_lits.proofs.Truth.{literal_true-opposite}
 use Rattle.dq_lits.proofs.LiftedExpansion.{literal_true-agree}
 use Rattle.dq_lits.proofs.FormulaVariables.{find_sound}
-use Rattle.hint_log.specs.Conditions.{is_circuit_name, HasSides}
-use Rattle.hint_log.specs.Entries.{name_of}
-use Rattle.hint_log.specs.Entries.{Entry}
-use Rattle.hint_log.specs.Entries.{Named, Given, Learned, Answer, Round, Begun}
+use Rattle.hint_log.specs.Conditions.{is_circuit_name, HasSides, MayFollow}
+use Rattle.hint_log.specs.Entries.{name_of, Entry, Named, Given}
 use Rattle.hint_log.specs.declared.names.Name.{Name}
 use Rattle.hint_log.specs.declared.names.Name.TheVariants.{Selector, Pair, Input, And, Bad, Copy as CopyOf, Term}
 use Rattle.hint_log.specs.declared.origins.Leaf.{Leaf}
 use Rattle.hint_log.specs.declared.origins.Leaf.TheVariants.{Constant, Literal as LeafLiteral}
 use Rattle.hint_log.specs.declared.origins.Origin.{Origin}
-use Rattle.hint_log.specs.declared.origins.Origin.TheVariants.{Instance, Gate, Fault, Copy, Link, TermGate, Differ}
+use Rattle.hint_log.specs.declared.origins.Origin.TheVariants.{Gate, Fault}
 use Rattle.hint_log.specs.Growth.{Each}
 use Rattle.hint_log.specs.Naming.{numbered_from_one, named_literal, name_literal}
 use Rattle.hint_log.specs.Origins.{leaf_with_sign, leaf_clause, matrix_literal, gate_rest, IsGateRest, IsLeafOf, IsFaultRest, IsOriginsClause}
-use Rattle.hint_log.specs.Conditions.{MayFollow}
 use Rattle.hint_log.specs.Deciding.{ReachesGiven, AreNegatedSelectors, RestsOnCircuit, IsCircuitGiven, IsFaultLeaf}
 use Rattle.log_laws.specs.Meaning.{IsSoundAnswer, LeavesSolve}
 use Rattle.log_laws.specs.Circuits.{name_value, value_in, leaf_value, existential_bit, by_bits}
@@ -51,11 +48,7 @@ sides (Named w n ∷ es) v a b lawful h = by_bit (sides es v a b lawful.1) (v ==
       (is_circuit_name (cond (variable_of b == w) (Some n) (name_of es (variable_of b))) ≡ true)
   by_bit later true h = search (arith, stays_named)
   by_bit later false h = search (arith, stays_named)
-sides (Given origin c ∷ es) v a b lawful h = sides es v a b lawful.1 h
-sides (Learned c hints ∷ es) v a b lawful h = sides es v a b lawful.1 h
-sides (Answer c hints ∷ es) v a b lawful h = sides es v a b lawful.1 h
-sides (Round row values j ∷ es) v a b lawful h = sides es v a b lawful.1 h
-sides (Begun live ∷ es) v a b lawful h = sides es v a b lawful.1 h
+sides (_ ∷ es) v a b lawful h = sides es v a b lawful.1 h
 
 pub both_same : (p q : Assignment) (a b : Literal) → p (variable_of a) ≡ q (variable_of a) →
     p (variable_of b) ≡ q (variable_of b) → (literal_true p a && literal_true p b) ≡
@@ -84,11 +77,7 @@ module _ (m : Assignment) (bad : ℕ → Bool) where
         (literal_true (value_in m bad (Named w n ∷ es)) a && literal_true (value_in m bad (Named w n ∷ es)) b)
     by_bit later true h = search arith
     by_bit later false h = later h ∙ up (sides es v a b lawful.1 h)
-  gate_value_is (Given origin c ∷ es) v a b lawful h = gate_value_is es v a b lawful.1 h
-  gate_value_is (Learned c hints ∷ es) v a b lawful h = gate_value_is es v a b lawful.1 h
-  gate_value_is (Answer c hints ∷ es) v a b lawful h = gate_value_is es v a b lawful.1 h
-  gate_value_is (Round row values j ∷ es) v a b lawful h = gate_value_is es v a b lawful.1 h
-  gate_value_is (Begun live ∷ es) v a b lawful h = gate_value_is es v a b lawful.1 h
+  gate_value_is (_ ∷ es) v a b lawful h = gate_value_is es v a b lawful.1 h
 
   abbrev pub simple_value : Name → Option Bool
   simple_value (Selector g) = Some true
@@ -100,13 +89,8 @@ module _ (m : Assignment) (bad : ℕ → Bool) where
   simple_value (Term a b) = Some false
 
   simple_is : (n : Name) (lower : Assignment) (b : Bool) → simple_value n ≡ Some b → name_value m bad lower n ≡ b
-  simple_is (Selector g) lower b h = cc
-  simple_is (Pair k y) lower b h = cc
   simple_is (Input x) lower b h = cc
-  simple_is (And p q) lower b h = cc
-  simple_is (Bad g j) lower b h = cc
-  simple_is (CopyOf side v) lower b h = cc
-  simple_is (Term x y) lower b h = cc
+  simple_is _ lower b h = cc
 
   -- a variable that is no gate has its name's value
   pub value_is : (es : List Entry) (v : ℕ) (n : Name) (b : Bool) → name_of es v ≡ Some n → simple_value n ≡ Some b →
@@ -117,11 +101,7 @@ module _ (m : Assignment) (bad : ℕ → Bool) where
         cond c (name_value m bad (value_in m bad es) o) (value_in m bad es v) ≡ b
     by_bit later true h = let is : o ≡ n = cc in simple_is o (value_in m bad es) b (ap simple_value is ∙ s)
     by_bit later false h = later h
-  value_is (Given origin c ∷ es) v n b h s = value_is es v n b h s
-  value_is (Learned c hints ∷ es) v n b h s = value_is es v n b h s
-  value_is (Answer c hints ∷ es) v n b h s = value_is es v n b h s
-  value_is (Round row values j ∷ es) v n b h s = value_is es v n b h s
-  value_is (Begun live ∷ es) v n b h s = value_is es v n b h s
+  value_is (_ ∷ es) v n b h s = value_is es v n b h s
 
 -- circuits don't depend on the bad clauses
 no_bad : (m : Assignment) (p q : ℕ → Bool) (es : List Entry) (v : ℕ) → Each MayFollow es →
@@ -131,14 +111,10 @@ no_bad m p q (Named w n ∷ es) v lawful h = by_bit (λ u. no_bad m p q es u law
   by_name : ((u : ℕ) → is_circuit_name (name_of es u) ≡ true → value_in m p es u ≡ value_in m q es u) → (o : Name) →
       HasSides es o → is_circuit_name (Some o) ≡ true → name_value m p (value_in m p es) o ≡ name_value m q
       (value_in m q es) o
-  by_name later (Selector g) s h = refl
-  by_name later (Pair k y) s h = refl
-  by_name later (Input x) s h = refl
   by_name later (And a b) s h = both_same (value_in m p es) (value_in m q es) a b (later (variable_of a) s.0)
       (later (variable_of b) s.1)
   by_name later (Bad g j) s h = cc
-  by_name later (CopyOf side u) s h = refl
-  by_name later (Term x y) s h = refl
+  by_name later _ s h = refl
 
   by_bit : ((u : ℕ) → is_circuit_name (name_of es u) ≡ true → value_in m p es u ≡ value_in m q es u) → (c : Bool) →
       is_circuit_name (cond c (Some n) (name_of es v)) ≡ true →
@@ -146,11 +122,7 @@ no_bad m p q (Named w n ∷ es) v lawful h = by_bit (λ u. no_bad m p q es u law
       (value_in m q es v)
   by_bit later true h = by_name later n lawful.0.sides h
   by_bit later false h = later v h
-no_bad m p q (Given origin c ∷ es) v lawful h = no_bad m p q es v lawful.1 h
-no_bad m p q (Learned c hints ∷ es) v lawful h = no_bad m p q es v lawful.1 h
-no_bad m p q (Answer c hints ∷ es) v lawful h = no_bad m p q es v lawful.1 h
-no_bad m p q (Round row values j ∷ es) v lawful h = no_bad m p q es v lawful.1 h
-no_bad m p q (Begun live ∷ es) v lawful h = no_bad m p q es v lawful.1 h
+no_bad m p q (_ ∷ es) v lawful h = no_bad m p q es v lawful.1 h
 
 abbrev pub is_bad : Assignment → Option (List Literal) → Bool
 is_bad n None = false
@@ -323,7 +295,6 @@ module _ (implied : LinesAreImplied) (f : Dqbf) (well : IsWellFormed f) (all : L
     given_true : (es more : List Entry) (group : ℕ) (origin : Origin) (c : List Literal) →
         all ≡ more ++ Given origin c ∷ es → IsOriginsClause f es origin c → IsCircuitGiven group origin c →
         ReachesGiven all first origin c → clause_true a c ≡ true
-    given_true es more group (Instance q j) c is o mine reached = absurd mine
     given_true es more group (Gate v i) c is o mine reached =
         let is' : all ≡ (more ++ Given (Gate v i) c ∷ []) ++ es = search (arith, append_assoc) in
         ap (clause_true a) o.clause_is ∙ or_right (not (a o.group)) (clause_true a o.rest)
@@ -340,10 +311,7 @@ module _ (implied : LinesAreImplied) (f : Dqbf) (well : IsWellFormed f) (all : L
         ap (clause_true a) o.clause_is ∙ or_right (not (a o.group)) (clause_true a o.rest)
         (fault_true es (more ++ Given (Fault (suc j) i out) c ∷ []) is' o.group
         (suc j) i out o.rest c o.rest_is reached)
-    given_true es more group (Copy side j) c is o mine reached = absurd mine
-    given_true es more group (Link v i) c is o mine reached = absurd mine
-    given_true es more group (TermGate v i) c is o mine reached = absurd mine
-    given_true es more group (Differ y leaf part) c is o mine reached = absurd mine
+    given_true es more group _ c is o mine reached = absurd mine
 
     selectors_false : (clause : List Literal) → AreNegatedSelectors all clause → clause_true a clause ≡ false
     selectors_false [] h = refl

@@ -6,8 +6,7 @@ use Rattle.std.proofs.lemmas.Map.Views.{Contains-from_any}
 use Rattle.std.proofs.lemmas.List.Elements.{All-from_recursion}
 use Rattle.dq_lits.specs.Literal.{Literal, negative}
 use Rattle.dq_lits.specs.Derivation.{holds}
-use Rattle.hint_log.specs.Entries.{Entry}
-use Rattle.hint_log.specs.Entries.{Named, Given}
+use Rattle.hint_log.specs.Entries.{Entry, Named, Given}
 use Rattle.hint_log.specs.declared.names.Name.{Name}
 use Rattle.hint_log.specs.declared.names.Name.TheVariants.{Input}
 use Rattle.hint_log.specs.declared.origins.Leaf.{Leaf}

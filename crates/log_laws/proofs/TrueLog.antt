@@ -4,14 +4,12 @@ use Rattle.std.specs.List.{Contains}
 use Rattle.std.specs.Option.{option_map}
 use Rattle.std.proofs.lemmas.Bool.{false≢true}
 use Rattle.dq_lits.specs.Literal.{Literal, positive, negative, variable_of, is_negative}
-use Rattle.hint_log.specs.Entries.{Entry}
-use Rattle.hint_log.specs.Entries.{Named, Given, Learned}
+use Rattle.hint_log.specs.Entries.{Entry, Named, Given, Learned, name_of}
 use Rattle.hint_log.specs.declared.names.Name.TheVariants.{Selector, Input, And, Bad}
 use Rattle.hint_log.specs.declared.origins.Leaf.{Leaf}
 use Rattle.hint_log.specs.declared.origins.Leaf.TheVariants.{Constant, Literal as LeafLiteral}
 use Rattle.hint_log.specs.declared.origins.Origin.TheVariants.{Gate, Fault}
 use Rattle.hint_log.specs.Conditions.{AreLogged}
-use Rattle.hint_log.specs.Entries.{name_of}
 use Rattle.hint_log.specs.Growth.{Each}
 use Rattle.hint_log.specs.Origins.{matrix_literal, gate_rest, leaf_clause, leaf_with_sign, IsLeafOf, IsOriginsClause}
 use Rattle.hint_log.specs.ProductiveLog.{MatchesOrigin, IsDerivedByHints}

@@ -3,8 +3,7 @@
 use Rattle.std.specs.Prelude.{◌==◌, ℕ, Bool, true, false, ◌&&◌, List, [], ◌∷◌, Option, None, Some, if◌then◌else◌}
 use Rattle.dq_lits.specs.Literal.{Assignment, literal_true}
 use Rattle.dq_lits.specs.Formula.{Existential, Dqbf, is_universal, existential_of}
-use Rattle.hint_log.specs.Entries.{Entry}
-use Rattle.hint_log.specs.Entries.{Named}
+use Rattle.hint_log.specs.Entries.{Entry, Named}
 use Rattle.hint_log.specs.declared.names.Name.{Name}
 use Rattle.hint_log.specs.declared.names.Name.TheVariants.{Selector, Input, And, Bad}
 use Rattle.hint_log.specs.declared.origins.Leaf.{Leaf}

@@ -6,13 +6,11 @@ use Rattle.dq_lits.specs.Formula.{Dqbf, Existential, IsWellFormed}
 use Rattle.dq_lits.specs.Henkin.{MatrixHolds, IsTrueFormula, IsFalseFormula}
 use Rattle.dq_lits.specs.Expansion.{IsExpansionUnsatisfiable}
 use Rattle.dq_lits.specs.Derivation.{LiveClauses, IsDerived, holds}
-use Rattle.hint_log.specs.Entries.{Entry}
-use Rattle.hint_log.specs.Entries.{Given, Answer}
+use Rattle.hint_log.specs.Entries.{Entry, Given, Answer, clause_at, rounds_of}
 use Rattle.hint_log.specs.declared.origins.Origin.{Origin}
 use Rattle.hint_log.specs.declared.origins.Leaf.{Leaf}
 use Rattle.hint_log.specs.Conditions.{AreLogged}
 use Rattle.hint_log.specs.Deciding.{ReachesGiven, DecidesFalse, DecidesTrue, RestsOnCircuit, IsFaultLeaf}
-use Rattle.hint_log.specs.Entries.{clause_at, rounds_of}
 use Rattle.hint_log.specs.Growth.{Each}
 use Rattle.hint_log.specs.Naming.{rows_of}
 use Rattle.hint_log.specs.Origins.{IsOriginsClause}
