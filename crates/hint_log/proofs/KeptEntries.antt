@@ -13,7 +13,7 @@ use Rattle.hint_log.specs.declared.kinds.ClauseKind.TheVariants.{OfLemma}
 use Rattle.hint_log.specs.declared.kinds.KeptRound.{KeptRound}
 use Rattle.hint_log.specs.declared.origins.Origin.{Origin}
 use Rattle.hint_log.specs.declared.names.Name.{Name}
-use Rattle.hint_log.specs.Entries.{Entry, ProofLog, Named, Given, Learned, Answer, Round, Begun, with_entry, has_id, is_round, is_counted, last_id, rounds_of, steps_of, numbered, clause_of, hints_of, origin_of, clause_at, hints_at, origin_at, name_of, names_of}
+use Rattle.hint_log.specs.Entries.{Entry, ProofLog, Named, Begun, with_entry, has_id, is_round, is_counted, last_id, rounds_of, steps_of, numbered, clause_of, hints_of, origin_of, clause_at, hints_at, origin_at, name_of, names_of}
 use Rattle.hint_log.specs.Kept.{KeptClause, HasNumbers, HasOwnNumbers, entry_by, clause_entry, round_entry, kept_clauses, log_entries, newest_of, kept_lives, IsKept}
 use Rattle.hint_log.proofs.Logged.{are_earlier, are_named_once}
 use Rattle.hint_log.proofs.ReachedIds.{hint_earlier}
@@ -228,11 +228,6 @@ absent_append k (x ∷ xs) ys left right = (left.0, absent_append k xs ys left.1
 pub unnamed_absent : (entries : List Entry) (v : ℕ) → name_of entries v ≡ None →
     AllByRecursion (λ e. eqb v e.0 ≡ false) (names_of entries)
 unnamed_absent [] v none = tt
-unnamed_absent (Given _ _ ∷ entries) v none = unnamed_absent entries v none
-unnamed_absent (Learned _ _ ∷ entries) v none = unnamed_absent entries v none
-unnamed_absent (Answer _ _ ∷ entries) v none = unnamed_absent entries v none
-unnamed_absent (Round _ _ _ ∷ entries) v none = unnamed_absent entries v none
-unnamed_absent (Begun _ ∷ entries) v none = unnamed_absent entries v none
 unnamed_absent (Named w name ∷ entries) v none = by (eqb v w) (λ other. unnamed_absent entries v other) refl none
   where
     by : (b : Bool) → (name_of entries v ≡ None → AllByRecursion (λ e. eqb v e.0 ≡ false) (names_of entries)) →
@@ -241,6 +236,7 @@ unnamed_absent (Named w name ∷ entries) v none = by (eqb v w) (λ other. unnam
         AllByRecursion (λ e. eqb v e.0 ≡ false) (names_of entries ++ (w, name) ∷ [])
     by true before is other = cc
     by false before is other = absent_append v (names_of entries) ((w, name) ∷ []) (before other) (is, tt)
+unnamed_absent (_ ∷ entries) v none = unnamed_absent entries v none
 
 pub one_name_more : (log : ProofLog) (limit steps var : ℕ) (name : Name) (es more_es : List EntryKind)
     (names more_names : List (ℕ × Name)) (ks : List ClauseKind)

@@ -5,7 +5,7 @@ use Rattle.dq_lits.specs.Literal.{Literal}
 use Rattle.hint_log.specs.declared.kinds.EntryKind.{EntryKind}
 use Rattle.hint_log.specs.declared.kinds.EntryKind.TheVariants.{Naming, Clause, Failure, Beginning}
 use Rattle.hint_log.specs.declared.kinds.ClauseKind.{ClauseKind}
-use Rattle.hint_log.specs.declared.kinds.ClauseKind.TheVariants.{OfInstance, OfGate, OfFalseFault, OfTrueFault, OfPositiveFault, OfNegativeFault, OfCopy, OfLink, OfTermGate, OfFalseDiffer, OfTrueDiffer, OfPositiveDiffer, OfNegativeDiffer, OfLemma, OfAnswer}
+use Rattle.hint_log.specs.declared.kinds.ClauseKind.TheVariants.{OfGate}
 use Rattle.hint_log.specs.declared.kinds.KeptRound.{KeptRound}
 use Rattle.hint_log.specs.declared.names.Name.{Name}
 use Rattle.hint_log.specs.Entries.{Entry}
@@ -14,21 +14,8 @@ use Rattle.hint_log.specs.Live.{last_live}
 
 live_by : (k : ClauseKind) (ls : List Literal) (ns : List ℕ) (es : List Entry) →
     last_live (entry_by k ls ns ∷ es) ≡ last_live es
-live_by OfInstance ls ns es = refl
 live_by OfGate ls ns es = refl
-live_by OfFalseFault ls ns es = refl
-live_by OfTrueFault ls ns es = refl
-live_by OfPositiveFault ls ns es = refl
-live_by OfNegativeFault ls ns es = refl
-live_by OfCopy ls ns es = refl
-live_by OfLink ls ns es = refl
-live_by OfTermGate ls ns es = refl
-live_by OfFalseDiffer ls ns es = refl
-live_by OfTrueDiffer ls ns es = refl
-live_by OfPositiveDiffer ls ns es = refl
-live_by OfNegativeDiffer ls ns es = refl
-live_by OfLemma ls ns es = refl
-live_by OfAnswer ls ns es = refl
+live_by _ ls ns es = refl
 
 pub newest_is_last : (ks : List EntryKind) (ns : List (ℕ × Name)) (cs : List KeptClause) (rs : List KeptRound)
     (vs : List (List ℕ)) → AreInterleaved ks ns cs rs vs

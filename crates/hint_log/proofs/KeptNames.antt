@@ -2,10 +2,8 @@
 use Rattle.std.proofs.Common.{◌≡◌, ℕ, zero, suc, ◌<◌, length, slice_get, arith, eqb, cond, true, false, true≢false, List, [], ◌∷◌, ◌++◌, Option, Some, None, IsSome, IfSome, IfNone, refl, sym, ap, subst, ◌∙◌}
 use Rattle.std.specs.Map.{lookup}
 use Rattle.std.proofs.lemmas.Bool.{eqb-true}
-use Rattle.hint_log.specs.Entries.{name_of, names_of}
+use Rattle.hint_log.specs.Entries.{name_of, names_of, Entry, Named}
 use Rattle.hint_log.proofs.Logged.{AreNamedOnce}
-use Rattle.hint_log.specs.Entries.{Entry}
-use Rattle.hint_log.specs.Entries.{Named, Given, Learned, Answer, Round, Begun}
 use Rattle.hint_log.specs.declared.names.Name.{Name}
 
 -- a name more, behind the others: of another variable, or of one that had none
@@ -22,13 +20,9 @@ lookup_new (n ∷ names) w v name here none = search (arith, (lookup_new names w
 pub found_names : (entries : List Entry) (v : ℕ) → AreNamedOnce entries →
     lookup (eqb v) (names_of entries) ≡ name_of entries v
 found_names [] v once = refl
-found_names (Given _ _ ∷ entries) v once = found_names entries v once
-found_names (Learned _ _ ∷ entries) v once = found_names entries v once
-found_names (Answer _ _ ∷ entries) v once = found_names entries v once
-found_names (Round _ _ _ ∷ entries) v once = found_names entries v once
-found_names (Begun _ ∷ entries) v once = found_names entries v once
 found_names (Named w name ∷ entries) v once =
     search (arith, (found_names entries v once.1), lookup_new, eqb-true, lookup_other)
+found_names (_ ∷ entries) v once = found_names entries v once
 
 pub no_name : (name : Option Name) → None ≡ name → IsSome name → ⊥
 no_name None none some = absurd (true≢false (sym some))

@@ -8,134 +8,43 @@ use Rattle.dq_lits.specs.Literal.{Literal}
 use Rattle.hint_log.specs.declared.kinds.EntryKind.{EntryKind}
 use Rattle.hint_log.specs.declared.kinds.EntryKind.TheVariants.{Naming, Clause, Failure, Beginning}
 use Rattle.hint_log.specs.declared.kinds.ClauseKind.{ClauseKind}
-use Rattle.hint_log.specs.declared.kinds.ClauseKind.TheVariants.{OfInstance, OfGate, OfFalseFault, OfTrueFault, OfPositiveFault, OfNegativeFault, OfCopy, OfLink, OfTermGate, OfFalseDiffer, OfTrueDiffer, OfPositiveDiffer, OfNegativeDiffer, OfLemma, OfAnswer}
+use Rattle.hint_log.specs.declared.kinds.ClauseKind.TheVariants.{OfGate}
 use Rattle.hint_log.specs.declared.kinds.KeptRound.{KeptRound}
 use Rattle.hint_log.specs.declared.names.Name.{Name}
 use Rattle.hint_log.specs.Entries.{Entry, has_id, is_round, is_counted, last_id, rounds_of, numbered, clause_of, hints_of, origin_of, names_of}
 use Rattle.hint_log.specs.Kept.{KeptClause, entry_by, clause_entry, round_entry, interleaved, AreInterleaved}
 
 pub has_id_by : (k : ClauseKind) (ls : List Literal) (ns : List ℕ) → has_id (entry_by k ls ns) ≡ true
-has_id_by OfInstance ls ns = refl
 has_id_by OfGate ls ns = refl
-has_id_by OfFalseFault ls ns = refl
-has_id_by OfTrueFault ls ns = refl
-has_id_by OfPositiveFault ls ns = refl
-has_id_by OfNegativeFault ls ns = refl
-has_id_by OfCopy ls ns = refl
-has_id_by OfLink ls ns = refl
-has_id_by OfTermGate ls ns = refl
-has_id_by OfFalseDiffer ls ns = refl
-has_id_by OfTrueDiffer ls ns = refl
-has_id_by OfPositiveDiffer ls ns = refl
-has_id_by OfNegativeDiffer ls ns = refl
-has_id_by OfLemma ls ns = refl
-has_id_by OfAnswer ls ns = refl
+has_id_by _ ls ns = refl
 
 pub no_round_by : (k : ClauseKind) (ls : List Literal) (ns : List ℕ) → is_round (entry_by k ls ns) ≡ false
-no_round_by OfInstance ls ns = refl
 no_round_by OfGate ls ns = refl
-no_round_by OfFalseFault ls ns = refl
-no_round_by OfTrueFault ls ns = refl
-no_round_by OfPositiveFault ls ns = refl
-no_round_by OfNegativeFault ls ns = refl
-no_round_by OfCopy ls ns = refl
-no_round_by OfLink ls ns = refl
-no_round_by OfTermGate ls ns = refl
-no_round_by OfFalseDiffer ls ns = refl
-no_round_by OfTrueDiffer ls ns = refl
-no_round_by OfPositiveDiffer ls ns = refl
-no_round_by OfNegativeDiffer ls ns = refl
-no_round_by OfLemma ls ns = refl
-no_round_by OfAnswer ls ns = refl
+no_round_by _ ls ns = refl
 
 pub counted_by : (k : ClauseKind) (ls : List Literal) (ns : List ℕ) →
     is_counted (entry_by k ls ns) ≡ is_counted (entry_by k [] [])
-counted_by OfInstance ls ns = refl
 counted_by OfGate ls ns = refl
-counted_by OfFalseFault ls ns = refl
-counted_by OfTrueFault ls ns = refl
-counted_by OfPositiveFault ls ns = refl
-counted_by OfNegativeFault ls ns = refl
-counted_by OfCopy ls ns = refl
-counted_by OfLink ls ns = refl
-counted_by OfTermGate ls ns = refl
-counted_by OfFalseDiffer ls ns = refl
-counted_by OfTrueDiffer ls ns = refl
-counted_by OfPositiveDiffer ls ns = refl
-counted_by OfNegativeDiffer ls ns = refl
-counted_by OfLemma ls ns = refl
-counted_by OfAnswer ls ns = refl
+counted_by _ ls ns = refl
 
 pub clause_by : (k : ClauseKind) (ls : List Literal) (ns : List ℕ) → clause_of (entry_by k ls ns) ≡ Some ls
-clause_by OfInstance ls ns = refl
 clause_by OfGate ls ns = refl
-clause_by OfFalseFault ls ns = refl
-clause_by OfTrueFault ls ns = refl
-clause_by OfPositiveFault ls ns = refl
-clause_by OfNegativeFault ls ns = refl
-clause_by OfCopy ls ns = refl
-clause_by OfLink ls ns = refl
-clause_by OfTermGate ls ns = refl
-clause_by OfFalseDiffer ls ns = refl
-clause_by OfTrueDiffer ls ns = refl
-clause_by OfPositiveDiffer ls ns = refl
-clause_by OfNegativeDiffer ls ns = refl
-clause_by OfLemma ls ns = refl
-clause_by OfAnswer ls ns = refl
+clause_by _ ls ns = refl
 
 pub hints_by : (k : ClauseKind) (ls : List Literal) (ns : List ℕ) →
     hints_of (entry_by k ls ns) ≡ hints_of (entry_by k [] ns)
-hints_by OfInstance ls ns = refl
 hints_by OfGate ls ns = refl
-hints_by OfFalseFault ls ns = refl
-hints_by OfTrueFault ls ns = refl
-hints_by OfPositiveFault ls ns = refl
-hints_by OfNegativeFault ls ns = refl
-hints_by OfCopy ls ns = refl
-hints_by OfLink ls ns = refl
-hints_by OfTermGate ls ns = refl
-hints_by OfFalseDiffer ls ns = refl
-hints_by OfTrueDiffer ls ns = refl
-hints_by OfPositiveDiffer ls ns = refl
-hints_by OfNegativeDiffer ls ns = refl
-hints_by OfLemma ls ns = refl
-hints_by OfAnswer ls ns = refl
+hints_by _ ls ns = refl
 
 pub origin_by : (k : ClauseKind) (ls : List Literal) (ns : List ℕ) →
     origin_of (entry_by k ls ns) ≡ origin_of (entry_by k [] ns)
-origin_by OfInstance ls ns = refl
 origin_by OfGate ls ns = refl
-origin_by OfFalseFault ls ns = refl
-origin_by OfTrueFault ls ns = refl
-origin_by OfPositiveFault ls ns = refl
-origin_by OfNegativeFault ls ns = refl
-origin_by OfCopy ls ns = refl
-origin_by OfLink ls ns = refl
-origin_by OfTermGate ls ns = refl
-origin_by OfFalseDiffer ls ns = refl
-origin_by OfTrueDiffer ls ns = refl
-origin_by OfPositiveDiffer ls ns = refl
-origin_by OfNegativeDiffer ls ns = refl
-origin_by OfLemma ls ns = refl
-origin_by OfAnswer ls ns = refl
+origin_by _ ls ns = refl
 
 names_by : (k : ClauseKind) (ls : List Literal) (ns : List ℕ) (es : List Entry) →
     names_of (entry_by k ls ns ∷ es) ≡ names_of es
-names_by OfInstance ls ns es = refl
 names_by OfGate ls ns es = refl
-names_by OfFalseFault ls ns es = refl
-names_by OfTrueFault ls ns es = refl
-names_by OfPositiveFault ls ns es = refl
-names_by OfNegativeFault ls ns es = refl
-names_by OfCopy ls ns es = refl
-names_by OfLink ls ns es = refl
-names_by OfTermGate ls ns es = refl
-names_by OfFalseDiffer ls ns es = refl
-names_by OfTrueDiffer ls ns es = refl
-names_by OfPositiveDiffer ls ns es = refl
-names_by OfNegativeDiffer ls ns es = refl
-names_by OfLemma ls ns es = refl
-names_by OfAnswer ls ns es = refl
+names_by _ ls ns es = refl
 
 pub reverse_cons : {X : Type 0} (x : X) (xs : List X) → reverse (x ∷ xs) ≡ reverse xs ++ x ∷ []
 reverse_cons x xs = reverse-append (x ∷ []) xs

@@ -5,12 +5,10 @@ use Rattle.std.proofs.lemmas.Bool.{eqb-true}
 use Rattle.list_laws.proofs.Options.{some_is, none_is_some}
 use Rattle.dq_lits.specs.Literal.{Literal, variable_of}
 use Rattle.hint_log.specs.Conditions.{AreNamed, HasSides, IsId, MayFollow, AreLogged, is_circuit_name, is_term_name}
-use Rattle.hint_log.specs.Entries.{has_id, last_id, steps_of, rounds_of, numbered, clause_of, clause_at, hints_of, name_of}
+use Rattle.hint_log.specs.Entries.{has_id, last_id, steps_of, rounds_of, numbered, clause_of, clause_at, hints_of, name_of, Entry, Named, Given, Learned, Answer}
 use Rattle.hint_log.specs.Reached.{Reaches, itself, by_hint}
-use Rattle.hint_log.specs.Entries.{Entry}
-use Rattle.hint_log.specs.Entries.{Named, Given, Learned, Answer, Round, Begun}
 use Rattle.hint_log.specs.declared.names.Name.{Name}
-use Rattle.hint_log.specs.declared.names.Name.TheVariants.{Selector, Pair, Input, And, Bad, Copy, Term}
+use Rattle.hint_log.specs.declared.names.Name.TheVariants.{And, Term}
 use Rattle.hint_log.proofs.Logged.{are_earlier}
 use Rattle.hint_log.proofs.ReachedIds.{hint_earlier}
 
@@ -32,24 +30,18 @@ reached_are_ids_lem entries id _ logged known (by_hint at hint hints reached is 
 
 -- a name stays
 name_stays : (e : Entry) (es : List Entry) (v : ℕ) → IsSome (name_of es v) → IsSome (name_of (e ∷ es) v)
-name_stays (Given _ _) es v some = some
-name_stays (Learned _ _) es v some = some
-name_stays (Answer _ _) es v some = some
-name_stays (Round _ _ _) es v some = some
-name_stays (Begun _) es v some = some
 name_stays (Named w name) es v some = search arith
+name_stays _ es v some = some
 
 named_stay : (e : Entry) (es : List Entry) (clause : List Literal) → AreNamed es clause → AreNamed (e ∷ es) clause
 named_stay e es clause named = λ k d below. name_stays e es (variable_of (slice_index_or clause k d)) (named k d below)
 
 head_named : (x : Entry) (es : List Entry) (clause : List Literal) → MayFollow es x → clause_of x ≡ Some clause →
     AreNamed es clause
-head_named (Named _ _) es clause asked is = absurd (none_is_some is)
 head_named (Given _ c) es clause asked is = subst (AreNamed es) (some_is is) asked
 head_named (Learned c _) es clause asked is = subst (AreNamed es) (some_is is) asked.0
 head_named (Answer c _) es clause asked is = subst (AreNamed es) (some_is is) asked.0
-head_named (Round _ _ _) es clause asked is = absurd (none_is_some is)
-head_named (Begun _) es clause asked is = absurd (none_is_some is)
+head_named _ es clause asked is = absurd (none_is_some is)
 
 pub clauses_are_named_lem : (entries : List Entry) (id : ℕ) (clause : List Literal) → AreLogged entries →
     clause_at entries id ≡ Some clause → AreNamed entries clause
@@ -67,45 +59,23 @@ clauses_are_named_lem (x ∷ es) id clause logged is =
 -- a variable of a circuit stays one
 circuit_stays : (e : Entry) (es : List Entry) (v : ℕ) → MayFollow es e → is_circuit_name (name_of es v) ≡ true →
     is_circuit_name (name_of (e ∷ es) v) ≡ true
-circuit_stays (Given _ _) es v asked is = is
-circuit_stays (Learned _ _) es v asked is = is
-circuit_stays (Answer _ _) es v asked is = is
-circuit_stays (Round _ _ _) es v asked is = is
-circuit_stays (Begun _) es v asked is = is
 circuit_stays (Named w name) es v asked is = search (arith, true≢false, eqb-true)
+circuit_stays _ es v asked is = is
 
 -- so does one of a definition
 term_stays : (e : Entry) (es : List Entry) (v : ℕ) → MayFollow es e → is_term_name (name_of es v) ≡ true →
     is_term_name (name_of (e ∷ es) v) ≡ true
-term_stays (Given _ _) es v asked is = is
-term_stays (Learned _ _) es v asked is = is
-term_stays (Answer _ _) es v asked is = is
-term_stays (Round _ _ _) es v asked is = is
-term_stays (Begun _) es v asked is = is
 term_stays (Named w name) es v asked is = search (arith, true≢false, eqb-true)
+term_stays _ es v asked is = is
 
 sides_stay : (e : Entry) (es : List Entry) (name : Name) → MayFollow es e → HasSides es name → HasSides (e ∷ es) name
-sides_stay e es (Selector _) asked sides = tt
-sides_stay e es (Pair _ _) asked sides = tt
-sides_stay e es (Input _) asked sides = tt
 sides_stay e es (And a b) asked sides = search (arith, circuit_stays)
-sides_stay e es (Bad _ _) asked sides = tt
-sides_stay e es (Copy _ _) asked sides = tt
 sides_stay e es (Term a b) asked sides = search (arith, term_stays)
+sides_stay e es _ asked sides = tt
 
 pub sides_are_named_lem : (entries : List Entry) (v : ℕ) (name : Name) → AreLogged entries →
     name_of entries v ≡ Some name → HasSides entries name
 sides_are_named_lem [] v name logged is = absurd (none_is_some is)
-sides_are_named_lem (Given o c ∷ es) v name logged is = sides_stay (Given o c) es name logged.0
-    (sides_are_named_lem es v name logged.1 is)
-sides_are_named_lem (Learned c h ∷ es) v name logged is = sides_stay (Learned c h) es name logged.0
-    (sides_are_named_lem es v name logged.1 is)
-sides_are_named_lem (Answer c h ∷ es) v name logged is = sides_stay (Answer c h) es name logged.0
-    (sides_are_named_lem es v name logged.1 is)
-sides_are_named_lem (Round r b j ∷ es) v name logged is = sides_stay (Round r b j) es name logged.0
-    (sides_are_named_lem es v name logged.1 is)
-sides_are_named_lem (Begun live ∷ es) v name logged is = sides_stay (Begun live) es name logged.0
-    (sides_are_named_lem es v name logged.1 is)
 sides_are_named_lem (Named w n ∷ es) v name logged is =
     sides_stay (Named w n) es name logged.0 (by (v == w) (λ is. sides_are_named_lem es v name logged.1 is) is)
   where
@@ -113,20 +83,12 @@ sides_are_named_lem (Named w n ∷ es) v name logged is =
         HasSides es name
     by true behind is = subst (HasSides es) (some_is is) logged.0.sides
     by false behind is = behind is
+sides_are_named_lem (e ∷ es) v name logged is = sides_stay e es name logged.0
+    (sides_are_named_lem es v name logged.1 is)
 
 pub names_are_unique_lem : (entries : List Entry) (v w : ℕ) (name : Name) → AreLogged entries →
     name_of entries v ≡ Some name → name_of entries w ≡ Some name → v ≡ w
 names_are_unique_lem [] v w name logged first second = absurd (none_is_some first)
-names_are_unique_lem (Given _ _ ∷ es) v w name logged first second =
-    names_are_unique_lem es v w name logged.1 first second
-names_are_unique_lem (Learned _ _ ∷ es) v w name logged first second =
-    names_are_unique_lem es v w name logged.1 first second
-names_are_unique_lem (Answer _ _ ∷ es) v w name logged first second =
-    names_are_unique_lem es v w name logged.1 first second
-names_are_unique_lem (Round _ _ _ ∷ es) v w name logged first second =
-    names_are_unique_lem es v w name logged.1 first second
-names_are_unique_lem (Begun _ ∷ es) v w name logged first second =
-    names_are_unique_lem es v w name logged.1 first second
 names_are_unique_lem (Named u n ∷ es) v w name logged first second =
     by (v == u) (w == u) refl refl (λ f s. names_are_unique_lem es v w name logged.1 f s) first second
   where
@@ -136,15 +98,14 @@ names_are_unique_lem (Named u n ∷ es) v w name logged first second =
     by true false p q behind f s = absurd (logged.0.fresh w (s ∙ sym f))
     by false true p q behind f s = absurd (logged.0.fresh v (f ∙ sym s))
     by false false p q behind f s = behind f s
+names_are_unique_lem (_ ∷ es) v w name logged first second = names_are_unique_lem es v w name logged.1 first second
 
 pub rounds_are_steps_lem : (entries : List Entry) → rounds_of entries ≤ steps_of entries
 rounds_are_steps_lem [] = omega arith
 rounds_are_steps_lem (Named _ _ ∷ es) = rounds_are_steps_lem es
 rounds_are_steps_lem (Given _ _ ∷ es) = rounds_are_steps_lem es
-rounds_are_steps_lem (Learned _ _ ∷ es) = let before = rounds_are_steps_lem es in omega (arith, before)
 rounds_are_steps_lem (Answer _ _ ∷ es) = rounds_are_steps_lem es
-rounds_are_steps_lem (Round _ _ _ ∷ es) = let before = rounds_are_steps_lem es in omega (arith, before)
-rounds_are_steps_lem (Begun _ ∷ es) = let before = rounds_are_steps_lem es in omega (arith, before)
+rounds_are_steps_lem (_ ∷ es) = let before = rounds_are_steps_lem es in omega (arith, before)
 
 pub ids_stay_lem : (e : Entry) (entries : List Entry) (id : ℕ) → IsId entries id →
     numbered has_id (e ∷ entries) id ≡ numbered has_id entries id

@@ -1,9 +1,7 @@
 -- What follows from what holds of every log.
 use Rattle.std.proofs.Common.{◌≡◌, List, [], ◌∷◌, None, arith}
 use Rattle.hint_log.specs.Conditions.{AreIds, AreLogged}
-use Rattle.hint_log.specs.Entries.{hints_of, name_of}
-use Rattle.hint_log.specs.Entries.{Entry}
-use Rattle.hint_log.specs.Entries.{Named, Given, Learned, Answer, Round, Begun}
+use Rattle.hint_log.specs.Entries.{hints_of, name_of, Entry, Named, Given, Learned, Answer, Round, Begun}
 
 -- each hint is an earlier id
 abbrev pub AreEarlier : List Entry → Type 0
@@ -25,18 +23,11 @@ no_ids entries hint has = let below = has.1 in absurd (omega (arith, below))
 
 pub are_earlier : (entries : List Entry) → AreLogged entries → AreEarlier entries
 are_earlier [] logged = tt
-are_earlier (Named _ _ ∷ es) logged = (no_ids es, are_earlier es logged.1)
-are_earlier (Given _ _ ∷ es) logged = (no_ids es, are_earlier es logged.1)
 are_earlier (Learned _ _ ∷ es) logged = (logged.0.1, are_earlier es logged.1)
 are_earlier (Answer _ _ ∷ es) logged = (logged.0.1, are_earlier es logged.1)
-are_earlier (Round _ _ _ ∷ es) logged = (no_ids es, are_earlier es logged.1)
-are_earlier (Begun _ ∷ es) logged = (no_ids es, are_earlier es logged.1)
+are_earlier (_ ∷ es) logged = (no_ids es, are_earlier es logged.1)
 
 pub are_named_once : (entries : List Entry) → AreLogged entries → AreNamedOnce entries
 are_named_once [] logged = tt
 are_named_once (Named _ _ ∷ es) logged = (logged.0.unnamed, are_named_once es logged.1)
-are_named_once (Given _ _ ∷ es) logged = are_named_once es logged.1
-are_named_once (Learned _ _ ∷ es) logged = are_named_once es logged.1
-are_named_once (Answer _ _ ∷ es) logged = are_named_once es logged.1
-are_named_once (Round _ _ _ ∷ es) logged = are_named_once es logged.1
-are_named_once (Begun _ ∷ es) logged = are_named_once es logged.1
+are_named_once (_ ∷ es) logged = are_named_once es logged.1

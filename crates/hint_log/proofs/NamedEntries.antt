@@ -7,7 +7,7 @@ use Rattle.std.proofs.lemmas.Bool.{eqb-true}
 use Rattle.list_laws.proofs.Members.{contains_later, contains_first}
 use Rattle.dq_lits.specs.Formula.{Dqbf}
 use Rattle.dq_lits.specs.Literal.{Literal, negative, variable_of}
-use Rattle.hint_log.specs.Entries.{Entry, Named, Given, Learned, Answer, Round, Begun, name_of, has_id, numbered, clause_at, last_id}
+use Rattle.hint_log.specs.Entries.{Entry, Named, Begun, name_of, has_id, numbered, clause_at, last_id}
 use Rattle.hint_log.specs.Growth.{Each, EachOf}
 use Rattle.hint_log.specs.Live.{live_numbers, AreNumbers}
 use Rattle.hint_log.specs.ProductiveSession.{MatchesLiveOrigin}
@@ -19,22 +19,14 @@ use Rattle.hint_log.specs.declared.names.Name.{Name}
 -- what has no name had none before
 pub unnamed_before : (e : Entry) (es : List Entry) (v : ℕ) → name_of (e ∷ es) v ≡ None → name_of es v ≡ None
 unnamed_before (Named w n) es v none = search arith
-unnamed_before (Given o c) es v none = none
-unnamed_before (Learned c hs) es v none = none
-unnamed_before (Answer c hs) es v none = none
-unnamed_before (Round r b j) es v none = none
-unnamed_before (Begun live) es v none = none
+unnamed_before _ es v none = none
 
 -- the live numbers are those of clauses
 pub live_are_numbers : (all : Dqbf) (es : List Entry) (live : List ℕ) → Each (MatchesLiveOrigin all) es →
     live_numbers es ≡ Some live → AreNumbers all live
 live_are_numbers all [] live given h = cc
-live_are_numbers all (Named v n ∷ es) live given h = live_are_numbers all es live given.1 h
-live_are_numbers all (Given origin c ∷ es) live given h = live_are_numbers all es live given.1 h
-live_are_numbers all (Learned c hints ∷ es) live given h = live_are_numbers all es live given.1 h
-live_are_numbers all (Answer c hints ∷ es) live given h = live_are_numbers all es live given.1 h
-live_are_numbers all (Round row values j ∷ es) live given h = live_are_numbers all es live given.1 h
 live_are_numbers all (Begun numbers ∷ es) live given h = search arith
+live_are_numbers all (_ ∷ es) live given h = live_are_numbers all es live given.1 h
 
 -- a fact of each entry is one of this entry
 pub each_one : (P : List Entry → Entry → Type 0) (es : List Entry) (e : Entry) → Each P es → Contains es e →
@@ -93,8 +85,4 @@ pub named_contains : (es : List Entry) (v : ℕ) (n : Name) → name_of es v ≡
 named_contains [] v n is = cc
 named_contains (Named w m ∷ es) v n is =
     search (arith, (named_contains es v n), eqb-true, contains_first, contains_later)
-named_contains (Given o c ∷ es) v n is = contains_later (Given o c) (Named v n) es (named_contains es v n is)
-named_contains (Learned c h ∷ es) v n is = contains_later (Learned c h) (Named v n) es (named_contains es v n is)
-named_contains (Answer c h ∷ es) v n is = contains_later (Answer c h) (Named v n) es (named_contains es v n is)
-named_contains (Round r b j ∷ es) v n is = contains_later (Round r b j) (Named v n) es (named_contains es v n is)
-named_contains (Begun live ∷ es) v n is = contains_later (Begun live) (Named v n) es (named_contains es v n is)
+named_contains (e ∷ es) v n is = contains_later e (Named v n) es (named_contains es v n is)

@@ -2,11 +2,9 @@
 use Rattle.std.specs.Prelude.{◌≡◌, ◌==◌, ℕ, ◌≤◌, ◌<◌, ◌^◌, Bool, true, false, List, Option, Some, None, IsSome, Contains}
 use Rattle.std.specs.List.{All}
 use Rattle.dq_lits.specs.Literal.{Literal, variable_of}
-use Rattle.hint_log.specs.Entries.{Entry}
-use Rattle.hint_log.specs.Entries.{Named, Given, Learned, Answer}
+use Rattle.hint_log.specs.Entries.{Entry, Named, Given, Learned, Answer, name_of, last_id}
 use Rattle.hint_log.specs.declared.names.Name.{Name}
 use Rattle.hint_log.specs.declared.names.Name.TheVariants.{Input, And, Copy as CopyOf, Term}
-use Rattle.hint_log.specs.Entries.{name_of, last_id}
 use Rattle.hint_log.specs.Growth.{Each}
 
 -- the literals stand on variables that have names

@@ -6,10 +6,8 @@ use Rattle.std.specs.Option.{option_map}
 use Rattle.dq_lits.specs.Literal.{Literal, negative, variable_of}
 use Rattle.dq_lits.specs.Formula.{Dqbf, Existential}
 use Rattle.dq_lits.specs.Derivation.{holds}
-use Rattle.hint_log.specs.Entries.{has_id, numbered, name_of}
+use Rattle.hint_log.specs.Entries.{has_id, numbered, name_of, Entry, Given, Learned, Answer}
 use Rattle.hint_log.specs.Reached.{Reaches}
-use Rattle.hint_log.specs.Entries.{Entry}
-use Rattle.hint_log.specs.Entries.{Given, Learned, Answer}
 use Rattle.hint_log.specs.declared.names.Name.TheVariants.{Selector, Input, And}
 use Rattle.hint_log.specs.declared.origins.Leaf.{Leaf}
 use Rattle.hint_log.specs.declared.origins.Leaf.TheVariants.{Constant, Literal as LeafLiteral}

@@ -6,9 +6,7 @@ use Rattle.dq_lits.specs.Literal.{Assignment, Literal, variable_of, is_negative}
 use Rattle.dq_lits.specs.Formula.{Dqbf, Existential, is_universal, existential_of}
 use Rattle.dq_lits.specs.Row.{assignment_of}
 use Rattle.dq_lits.specs.Expansion.{row_assignment, agree_on}
-use Rattle.hint_log.specs.Entries.{name_of}
-use Rattle.hint_log.specs.Entries.{Entry}
-use Rattle.hint_log.specs.Entries.{Round}
+use Rattle.hint_log.specs.Entries.{name_of, Entry, Round}
 use Rattle.hint_log.specs.declared.names.Name.{Name}
 use Rattle.hint_log.specs.declared.names.Name.TheVariants.{Selector, Pair}
 

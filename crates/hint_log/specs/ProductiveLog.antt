@@ -8,9 +8,7 @@ use Rattle.dq_lits.specs.Literal.{Assignment, Literal, negative, variable_of, op
 use Rattle.dq_lits.specs.Formula.{Dqbf}
 use Rattle.dq_lits.specs.Expansion.{pair_number, IsExpansionModel}
 use Rattle.dq_lits.specs.Derivation.{LiveClauses, IsDerived, holds, is_tautology, status_of, stuck}
-use Rattle.hint_log.specs.Entries.{clause_at, rounds_of, beginnings_of}
-use Rattle.hint_log.specs.Entries.{Entry}
-use Rattle.hint_log.specs.Entries.{Named, Given, Learned, Answer, Round}
+use Rattle.hint_log.specs.Entries.{clause_at, rounds_of, beginnings_of, Entry, Named, Given, Learned, Answer, Round}
 use Rattle.hint_log.specs.declared.names.Name.{Name}
 use Rattle.hint_log.specs.declared.names.Name.TheVariants.{Input}
 use Rattle.hint_log.specs.declared.origins.Origin.{Origin}

@@ -1,8 +1,7 @@
 -- Which clauses an answer rests on.
 use Rattle.std.specs.Prelude.{◌≡◌, ℕ, List, Some, Contains}
 use Rattle.std.specs.List.Sorted.{IsStrictlyIncreasing}
-use Rattle.hint_log.specs.Entries.{Entry}
-use Rattle.hint_log.specs.Entries.{hints_at}
+use Rattle.hint_log.specs.Entries.{Entry, hints_at}
 
 -- the id itself, and the hints of each id reached
 pub data Reaches (entries : List Entry) (id : ℕ) : ℕ → Type 0 where
