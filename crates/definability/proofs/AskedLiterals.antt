@@ -1,4 +1,5 @@
--- What is asked at a row: an existential's copy with the other bit, and the copies of what it sees with the row's bits.
+-- What is asked at a row: an existential's copy with the other bit, and the copies of what it sees
+-- with the row's bits.
 use Rattle.std.proofs.Common.{◌≡◌, ◌≢◌, ◌⊎◌, ℕ, zero, suc, Bool, true, false, true≢false, not, inl, inr, List, [], ◌∷◌, map, get_or, slice_get, Option, Some, refl, sym, ◌∙◌, ap, arith}
 use Rattle.std.specs.List.{Contains}
 use Rattle.std.proofs.lemmas.Bool.{cases_Bool, or_right}

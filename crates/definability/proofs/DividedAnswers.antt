@@ -1,4 +1,5 @@
--- What an answer of the copies rests on: the first copy on one side, the second copy and equations on the other.
+-- What an answer of the copies rests on: the first copy on one side, the second copy and equations
+-- on the other.
 use Rattle.std.proofs.Common.{◌≡◌, ◌⊎◌, ℕ, zero, suc, ◌+◌, ◌<◌, true, false, true≢false, ◌&&◌, inl, inr, List, [], ◌∷◌, ◌++◌, map, length, Option, Some, None, IsSome, get_or, slice_get, refl, sym, ◌∙◌, ap, subst, arith}
 use Rattle.std.specs.List.{All, Contains, list_any}
 use Rattle.std.proofs.lemmas.Bool.{or_cases, or_left, or_right, and_parts, eqb-true, eq-eqb}
@@ -20,7 +21,7 @@ use Rattle.hint_log.specs.Reached.{Reaches}
 use Rattle.hint_log.specs.declared.names.Name.{Name}
 use Rattle.hint_log.specs.declared.names.Name.TheVariants.{Selector, Copy as CopyOf}
 use Rattle.hint_log.specs.declared.origins.Origin.{Origin}
-use Rattle.hint_log.specs.declared.origins.Origin.TheVariants.{Instance, Gate, Fault, Copy, Link, TermGate, Differ}
+use Rattle.hint_log.specs.declared.origins.Origin.TheVariants.{Copy, Link}
 use Rattle.aig_graph.specs.declared.nodes.Node.{Node}
 use Rattle.interpolants.specs.Interpolant.{Partition, partition, IsReachedGiven, IsOther}
 use Rattle.log_laws.proofs.Found.{named_variable}
@@ -36,31 +37,16 @@ use Rattle.definability.proofs.Reached.{IsOfCopies, IsOfAnswer, of_answer, is_gi
 link_given : (es earlier : List Entry) (f : Dqbf) (places : List ℕ) (x : ℕ) (origin : Origin) (c : List Literal) →
     NamesStay earlier es → IsRead f places x → is_link_of x origin ≡ true →
     MatchesOrigin f earlier (Given origin c) → IsLinkGiven es f places c
-link_given es earlier f places x (Instance k j) c stay seen test right = cc
-link_given es earlier f places x (Gate v i) c stay seen test right = cc
-link_given es earlier f places x (Fault j i leaf) c stay seen test right = cc
-link_given es earlier f places x (Copy s j) c stay seen test right = cc
-link_given es earlier f places x (TermGate s j) c stay seen test right = cc
-link_given es earlier f places x (Differ z leaf part) c stay seen test right = cc
 link_given es earlier f places x (Link v i) c stay seen test right = search (arith, eqb-true, named_stay)
+link_given es earlier f places x _ c stay seen test right = cc
 
 pub of_copies : (side : ℕ) (origin : Origin) → is_copy_of side origin ≡ true → IsOfCopies origin
-of_copies side (Instance k j) h = cc
-of_copies side (Gate v i) h = cc
-of_copies side (Fault j i leaf) h = cc
-of_copies side (Link v i) h = cc
-of_copies side (TermGate v i) h = cc
-of_copies side (Differ y leaf part) h = cc
 of_copies side (Copy s j) h = refl
+of_copies side _ h = cc
 
 of_links : (x : ℕ) (origin : Origin) → is_link_of x origin ≡ true → IsOfCopies origin
-of_links x (Instance k j) h = cc
-of_links x (Gate v i) h = cc
-of_links x (Fault j i leaf) h = cc
-of_links x (Copy s j) h = cc
-of_links x (TermGate s j) h = cc
-of_links x (Differ z leaf part) h = cc
 of_links x (Link v i) h = refl
+of_links x _ h = cc
 
 pub selector_not_copy : (o : Option Name) (g side v : ℕ) → o ≡ Some (Selector g) → o ≡ Some (CopyOf side v) → ⊥
 selector_not_copy o g side v a b = let e : Some (Selector g) ≡ Some (CopyOf side v) = sym a ∙ b in cc

@@ -6,14 +6,14 @@ use Rattle.std.specs.List.{Contains, range_with_len}
 use Rattle.definability.specs.declared.frames.Sides.{Sides}
 use Rattle.dq_lits.specs.Formula.{Dqbf, declared}
 use Rattle.definability.specs.declared.definability.Definability.{Definability}
-use Rattle.hint_log.specs.Entries.{ProofLog, name_of, with_entry, Named, Entry, Given, Learned, Answer, Round, Begun}
+use Rattle.hint_log.specs.Entries.{ProofLog, name_of, with_entry, Named, Entry, Given, Learned, Answer}
 use Rattle.log_laws.specs.Engines.{HasNone, copies, IsAddedBy, IsInNewGroup}
 use Rattle.oracle.specs.Calls.{IsMade}
 use Rattle.hint_log.specs.declared.names.Name.TheVariants.{Selector}
 use Rattle.definability.specs.Making.{HasNoCopies, IsFileMade, IsAllGiven, IsFileActive, AreFileCopies, HasMoreGiven, AreGivenBefore, CanGiveFile}
 use Rattle.definability.specs.Store.{parts_at, store_of, Slot, HasGroup, of_frame, of_link, IsStoreEntry, IsPartialStore, side_copies, store_groups, both_groups, IsStore, side_group, copy_groups, HasGiven}
 use Rattle.std.proofs.lemmas.Option.{slice_get_within, slice_get-get_or}
-use Rattle.hint_log.specs.declared.origins.Origin.TheVariants.{Instance, Gate, Fault, Copy, Link, TermGate, Differ}
+use Rattle.hint_log.specs.declared.origins.Origin.TheVariants.{Copy, Link}
 use Rattle.hint_log.specs.Growth.{Each}
 use Rattle.list_laws.proofs.Members.{contains_first, contains_later}
 use Rattle.list_laws.proofs.Elements.{zeros_there}
@@ -116,10 +116,7 @@ module _ (f : Dqbf) (p : Definability) (spare : Group) (old log : ProofLog) (non
   old_entry earlier (Named v n) inside = other_name f (store_of p) n (λ own. none (Named v n) own inside)
   old_entry earlier (Given origin c) inside = other_given f numbered (store_of p) earlier origin c
       (λ own. none (Given origin c) own inside) (λ slot g has there. no_slot slot g has)
-  old_entry earlier (Learned c hs) inside = tt
-  old_entry earlier (Answer c hs) inside = tt
-  old_entry earlier (Round r values j) inside = tt
-  old_entry earlier (Begun live) inside = tt
+  old_entry earlier _ inside = tt
 
   old_entries : (xs : List Entry) → ((x : Entry) → Contains xs x → Contains old.entries x) →
       Each (IsStoreEntry f numbered (store_of p)) xs
@@ -187,15 +184,10 @@ module _ (f : Dqbf) (p : Definability) (spare : Group) (old log : ProofLog) (non
     matches_origin = h.0.matches_origin;
     not_repeated = h.0.not_repeated;
   }
-  added group earlier (Given (Instance k j) c) h = let wrong : false ≡ true = h.1 in cc
-  added group earlier (Given (Gate v i) c) h = let wrong : false ≡ true = h.1 in cc
-  added group earlier (Given (Fault j i leaf) c) h = let wrong : false ≡ true = h.1 in cc
-  added group earlier (Given (TermGate v i) c) h = let wrong : false ≡ true = h.1 in cc
-  added group earlier (Given (Differ y leaf i) c) h = let wrong : false ≡ true = h.1 in cc
   added group earlier (Learned c hs) h = tt
   added group earlier (Answer c hs) h = let wrong : false ≡ true = h.1 in cc
-  added group earlier (Round r values j) h = absurd h.0
-  added group earlier (Begun live) h = absurd h.0
+  added group earlier (Given _ c) h = let wrong : false ≡ true = h.1 in cc
+  added group earlier _ h = absurd h.0
 
   module _ (q : Definability) (new : ProofLog) (x : IsFollowing f numbered (store_of p) log (store_of q) new) where
     pub file_made : IsFileMade f old new

@@ -1,4 +1,5 @@
--- What an answer to a question says of an existential: of its definition, and of its definition under conditions.
+-- What an answer to a question says of an existential: of its definition, and of its definition
+-- under conditions.
 use Rattle.std.proofs.Common.{◌≡◌, ◌≢◌, ◌<◌, ℕ, Bool, true, false, true≢false, not, inl, inr, List, [], ◌∷◌, filter, length, get_or, slice_get, slice_index, Some, IsSome, sym, ◌∙◌, ap, subst, arith}
 use Rattle.std.specs.List.{All, Contains}
 use Rattle.std.proofs.lemmas.Bool.{cases_Bool}
@@ -37,8 +38,8 @@ use Rattle.definition_order.proofs.Firsts.{universals_apart}
 abbrev kept_test : Dqbf → List Bool → Literal → Bool
 kept_test f flags l = has_copies f flags (variable_of l)
 
--- a question may be asked where the places are those of a set that have copies, and the conditions that
--- are kept
+-- a question may be asked where the places are those of a set that have copies, and the conditions
+-- that are kept
 pub posed_of : (f : Dqbf) → IsLawful f → (flags : List Bool) (set : Existential → ℕ → Type 0) (v : ℕ)
     (conditions kept : List Literal) (places : List ℕ) → length flags ≡ length f.universals →
     IsSome (existential_of f v) →

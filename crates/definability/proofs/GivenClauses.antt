@@ -6,7 +6,7 @@ use Rattle.list_laws.proofs.Members.{contains_cases}
 use Rattle.dq_lits.specs.Literal.{Literal, negative, variable_of}
 use Rattle.dq_lits.specs.Formula.{Dqbf}
 use Rattle.hint_log.specs.Conditions.{AreLogged}
-use Rattle.hint_log.specs.Entries.{Entry, Named, Given, Learned, Answer, Round, Begun, ProofLog, with_entry, name_of}
+use Rattle.hint_log.specs.Entries.{Entry, Named, Given, ProofLog, with_entry, name_of}
 use Rattle.hint_log.specs.Growth.{Each}
 use Rattle.hint_log.specs.Naming.{AreNamedAs, named_literal, name_literal}
 use Rattle.hint_log.specs.Origins.{IsRestOf}
@@ -14,7 +14,7 @@ use Rattle.hint_log.specs.ProductiveLog.{MatchesOrigin, is_fault, fault_groups, 
 use Rattle.hint_log.specs.declared.names.Name.{Name}
 use Rattle.hint_log.specs.declared.names.Name.TheVariants.{Selector, Copy as CopyOf}
 use Rattle.hint_log.specs.declared.origins.Origin.{Origin}
-use Rattle.hint_log.specs.declared.origins.Origin.TheVariants.{Instance, Gate, Fault, Copy, Link, TermGate, Differ}
+use Rattle.hint_log.specs.declared.origins.Origin.TheVariants.{Fault}
 use Rattle.hint_log.proofs.NamedEntries.{none_below}
 use Rattle.log_laws.specs.Engines.{circuits, copies, origin_engine, IsAddedBy}
 use Rattle.log_laws.proofs.Found.{named_variable}
@@ -37,13 +37,8 @@ pub in_same : (f : Dqbf) (group : ℕ) (old new : ProofLog) → new ≡ old → 
 in_same f group old new is standing start h = grown_by_none (IsAddedBy f copies standing true start) old new is
 
 pub no_fault : (origin : Origin) → origin_engine origin ≡ copies → is_fault origin ≡ false
-no_fault (Instance k j) e = refl
-no_fault (Gate v i) e = refl
 no_fault (Fault j i leaf) e = let h : circuits ≡ copies = e in cc
-no_fault (Copy side j) e = refl
-no_fault (Link v i) e = refl
-no_fault (TermGate v i) e = refl
-no_fault (Differ y leaf part) e = refl
+no_fault _ e = refl
 
 not_a_fault : (origin : Origin) → origin_engine origin ≡ copies → (j i : ℕ) {leaf : _} → origin ≡ Fault j i leaf → ⊥
 not_a_fault origin e j i is = let h : copies ≡ circuits = sym e ∙ ap origin_engine is in cc
@@ -107,10 +102,7 @@ fresh_group f test g (Given origin c ∷ es) lawful none = (
     no_some : (o : Option Name) → o ≡ None → IsSome o → ⊥
     no_some None is some = cc
     no_some (Some n) is some = cc
-fresh_group f test g (Learned c hints ∷ es) lawful none = (tt, fresh_group f test g es lawful.1 none)
-fresh_group f test g (Answer c hints ∷ es) lawful none = (tt, fresh_group f test g es lawful.1 none)
-fresh_group f test g (Round row values j ∷ es) lawful none = (tt, fresh_group f test g es lawful.1 none)
-fresh_group f test g (Begun live ∷ es) lawful none = (tt, fresh_group f test g es lawful.1 none)
+fresh_group f test g (_ ∷ es) lawful none = (tt, fresh_group f test g es lawful.1 none)
 
 -- literals on copies are no selectors
 pub plain_copy : (es : List Entry) (k : Literal) (side v : ℕ) (b : Bool) →

@@ -23,7 +23,6 @@ use Rattle.definability.specs.Store.{StoreState, parts_at, side_copies, IsStoreE
 use Rattle.definability.proofs.PartSteps.{raised, raised_here, raised_grown, held_before, raised_store, raised_new, raised_groups, raised_old}
 use Rattle.definability.proofs.PreservedStores.{kept_by, given_in_stays, parts_stay, link_number}
 use Rattle.definability.proofs.StoreSteps.{following_entry}
-use Rattle.definability.specs.Store.{side_copies}
 
 -- half of an equation
 record IsLinkGiven (all : Dqbf) (s : StoreState) (x i : ℕ) : Type 0 where

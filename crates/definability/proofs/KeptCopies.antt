@@ -6,7 +6,7 @@ use Rattle.std.proofs.lemmas.Option.{slice_get_within, get_or_from_slice_get}
 use Rattle.list_laws.proofs.Members.{contains_later}
 use Rattle.dq_lits.specs.Literal.{Literal}
 use Rattle.dq_lits.specs.Formula.{Dqbf}
-use Rattle.hint_log.specs.Entries.{Entry, Named, Given, Learned, Answer, Round, Begun, ProofLog, name_of}
+use Rattle.hint_log.specs.Entries.{Entry, Given, Round, ProofLog, name_of}
 use Rattle.hint_log.specs.Growth.{Each, Grew}
 use Rattle.hint_log.specs.Naming.{NamedLiteral, named_literal}
 use Rattle.hint_log.specs.declared.names.Name.{Name}
@@ -50,22 +50,14 @@ module _ (f : Dqbf) (engine : Engine) (group : ℕ) (silent : Bool) (old : List 
   other_group : (test : Origin → Bool) (mine : ℕ) (n : Name) → mine ≢ group → name_of old mine ≡ Some n →
       (earlier : List Entry) (e : Entry) →
       IsAddedBy f engine group silent old earlier e → IsGroupGiven f test mine earlier e
-  other_group test mine n apart named earlier (Named v m) h = tt
   other_group test mine n apart named earlier (Given origin c) h = search arith
-  other_group test mine n apart named earlier (Learned c hints) h = tt
-  other_group test mine n apart named earlier (Answer c hints) h = tt
-  other_group test mine n apart named earlier (Round row values j) h = tt
-  other_group test mine n apart named earlier (Begun live) h = tt
+  other_group test mine n apart named earlier _ h = tt
 
   other_side : (side mine : ℕ) (n : Name) → mine ≢ group → name_of old mine ≡ Some n →
       (earlier : List Entry) (e : Entry) →
       IsAddedBy f engine group silent old earlier e → IsSideGiven f side mine earlier e
-  other_side side mine n apart named earlier (Named v m) h = tt
   other_side side mine n apart named earlier (Given origin c) h = search arith
-  other_side side mine n apart named earlier (Learned c hints) h = tt
-  other_side side mine n apart named earlier (Answer c hints) h = tt
-  other_side side mine n apart named earlier (Round row values j) h = tt
-  other_side side mine n apart named earlier (Begun live) h = tt
+  other_side side mine n apart named earlier _ h = tt
 
 pub keeps_by_engine : (f : Dqbf) (engine : Engine) (group : ℕ) (silent : Bool) (old new : ProofLog) →
     Grew (IsAddedBy f engine group silent old.entries) old new →

@@ -4,14 +4,14 @@ use Rattle.std.proofs.lemmas.Option.{slice_get_within}
 use Rattle.list_laws.proofs.Elements.{kept_there}
 use Rattle.dq_lits.specs.Literal.{Literal}
 use Rattle.dq_lits.specs.Formula.{Dqbf}
-use Rattle.hint_log.specs.Entries.{Entry, Named, Given, Learned, Answer, Round, Begun}
+use Rattle.hint_log.specs.Entries.{Entry, Named, Given}
 use Rattle.hint_log.specs.Growth.{Each}
 use Rattle.hint_log.specs.Live.{with_matrix}
 use Rattle.hint_log.specs.Naming.{numbered_from_one}
 use Rattle.hint_log.specs.ProductiveSession.{frame_of}
 use Rattle.hint_log.specs.declared.names.Name.{Name}
-use Rattle.hint_log.specs.declared.names.Name.TheVariants.{Selector, Pair, Input, And, Bad, Copy as CopyOf, Term}
-use Rattle.hint_log.specs.declared.origins.Origin.TheVariants.{Instance, Gate, Fault, Copy, Link, TermGate, Differ}
+use Rattle.hint_log.specs.declared.names.Name.TheVariants.{Copy as CopyOf}
+use Rattle.hint_log.specs.declared.origins.Origin.TheVariants.{Copy, Link}
 use Rattle.definability.specs.Leaving.{ClausesLeaveStores}
 use Rattle.definability.specs.Store.{StoreState, store_of, IsStoredName, IsStoredCopy, IsStoredLink, IsStoreEntry, IsGivenThere, IsStore}
 
@@ -36,13 +36,8 @@ module _ (all : Dqbf) (numbered : List ℕ) (s : StoreState) (more : List (List 
   same_frame (suc i) c is = search (arith, slice_get_within, append_index)
 
   name_there : (n : Name) → IsStoredName all s n → IsStoredName all' s n
-  name_there (Selector g) h = tt
-  name_there (Pair k y) h = tt
-  name_there (Input x) h = tt
-  name_there (And a b) h = tt
-  name_there (Bad g j) h = tt
   name_there (CopyOf side x) h = h
-  name_there (Term a b) h = tt
+  name_there _ h = tt
 
   copy_there : (earlier : List Entry) (side j : ℕ) (c : List Literal) → IsStoredCopy all numbered s earlier side j c →
       IsStoredCopy all' (numbered ++ frames) s earlier side j c
@@ -55,17 +50,10 @@ module _ (all : Dqbf) (numbered : List ℕ) (s : StoreState) (more : List (List 
   entry_there : (earlier : List Entry) (e : Entry) → IsStoreEntry all numbered s earlier e →
       IsStoreEntry all' (numbered ++ frames) s earlier e
   entry_there earlier (Named v n) h = name_there n h
-  entry_there earlier (Given (Instance k j) c) h = h
-  entry_there earlier (Given (Gate v i) c) h = h
-  entry_there earlier (Given (Fault j i leaf) c) h = h
   entry_there earlier (Given (Copy side j) c) h = copy_there earlier side j c h
   entry_there earlier (Given (Link x i) c) h = link_there earlier x i c h
-  entry_there earlier (Given (TermGate v i) c) h = h
-  entry_there earlier (Given (Differ y leaf i) c) h = h
-  entry_there earlier (Learned c hs) h = tt
-  entry_there earlier (Answer c hs) h = tt
-  entry_there earlier (Round r bits j) h = tt
-  entry_there earlier (Begun live) h = tt
+  entry_there earlier (Given _ c) h = h
+  entry_there earlier _ h = tt
 
   entries_there : (es : List Entry) → Each (IsStoreEntry all numbered s) es →
       Each (IsStoreEntry all' (numbered ++ frames) s) es

@@ -1,4 +1,5 @@
--- A variable of a store gets one part of its copies more: a copy, its equation's group, or half of the equation.
+-- A variable of a store gets one part of its copies more: a copy, its equation's group, or half of
+-- the equation.
 use Rattle.std.proofs.Common.{◌≡◌, ◌≢◌, ℕ, ◌+◌, ◌<◌, ◌≤◌, false, ◌⊎◌, inl, inr, List, ◌∷◌, ◌++◌, map, length, set, slice_get, Some, None, refl, sym, ◌∙◌, ap, subst, arith}
 use Rattle.std.specs.List.{AllPairs, Contains}
 use Rattle.std.proofs.lemmas.Bool.{eq-eqb}

@@ -5,14 +5,14 @@ use Rattle.std.proofs.lemmas.List.Elements.{Contains-append_left, Contains-appen
 use Rattle.list_laws.proofs.Members.{contains_later}
 use Rattle.dq_lits.specs.Literal.{Literal}
 use Rattle.dq_lits.specs.Formula.{Dqbf, declared}
-use Rattle.hint_log.specs.Entries.{Entry, Named, Given, Learned, Answer, Round, Begun, name_of}
+use Rattle.hint_log.specs.Entries.{Entry, Named, Given, Round, Begun, name_of}
 use Rattle.hint_log.specs.Growth.{EachOf, Each}
 use Rattle.hint_log.specs.Naming.{NamedLiteral}
 use Rattle.hint_log.specs.declared.names.Name.{Name}
-use Rattle.hint_log.specs.declared.names.Name.TheVariants.{Selector, Pair, Input, And, Bad, Copy as CopyOf, Term}
+use Rattle.hint_log.specs.declared.names.Name.TheVariants.{Copy as CopyOf}
 use Rattle.hint_log.specs.declared.origins.Origin.{Origin}
-use Rattle.hint_log.specs.declared.origins.Origin.TheVariants.{Instance, Gate, Fault, Copy, Link, TermGate, Differ}
-use Rattle.log_laws.specs.Engines.{Engine, copies, same_engine, origin_engine, name_engine, is_engine, circuits, instances}
+use Rattle.hint_log.specs.declared.origins.Origin.TheVariants.{Instance, Gate, Fault, Copy, Link}
+use Rattle.log_laws.specs.Engines.{Engine, copies, same_engine, origin_engine, name_engine, is_engine}
 use Rattle.log_laws.specs.Sessions.{IsInOneOf, IsAddedLive}
 use Rattle.log_laws.proofs.Kept.{NamesStay, named_stay, name_stays_by, literal_stays, in_unnamed, in_one_group}
 use Rattle.oracle.specs.declared.groups.Group.{Group}
@@ -119,13 +119,8 @@ has_number s (of_link k) g has = Contains-append_right (both_groups s.frames) (m
 -- other engines
 pub other_name : (all : Dqbf) (s : StoreState) (n : Name) → (is_engine copies (name_engine n) ≡ true → ⊥) →
     IsStoredName all s n
-other_name all s (Selector g) off = tt
-other_name all s (Pair k y) off = tt
-other_name all s (Input x) off = tt
-other_name all s (And a b) off = tt
-other_name all s (Bad g j) off = tt
 other_name all s (CopyOf side x) off = absurd (off refl)
-other_name all s (Term a b) off = tt
+other_name all s _ off = tt
 
 pub other_given : (all : Dqbf) (numbered : List ℕ) (s : StoreState) (earlier : List Entry) (origin : Origin)
     (c : List Literal) → (same_engine copies (origin_engine origin) ≡ true → ⊥) → IsInNoGroup s c →
@@ -133,16 +128,12 @@ pub other_given : (all : Dqbf) (numbered : List ℕ) (s : StoreState) (earlier :
 other_given all numbered s earlier (Instance k j) c off h = h
 other_given all numbered s earlier (Gate v i) c off h = h
 other_given all numbered s earlier (Fault j i leaf) c off h = h
-other_given all numbered s earlier (Copy side j) c off h = absurd (off refl)
-other_given all numbered s earlier (Link x i) c off h = absurd (off refl)
-other_given all numbered s earlier (TermGate v i) c off h = absurd (off refl)
-other_given all numbered s earlier (Differ y leaf i) c off h = absurd (off refl)
+other_given all numbered s earlier _ c off h = absurd (off refl)
 
 not_copies : (engine other : Engine) → same_engine engine copies ≡ false → other ≡ engine →
     same_engine copies other ≡ true → ⊥
-not_copies circuits other apart is own = let e : same_engine copies circuits ≡ true = ap (same_engine copies) (sym is) ∙ own in cc
-not_copies instances other apart is own = let e : same_engine copies instances ≡ true = ap (same_engine copies) (sym is) ∙ own in cc
 not_copies copies other apart is own = cc
+not_copies x other apart is own = let e : same_engine copies x ≡ true = ap (same_engine copies) (sym is) ∙ own in cc
 
 name_off : (engine : Engine) (o : Option Engine) → same_engine engine copies ≡ false →
     (o ≡ None) ⊎ (o ≡ Some engine) → is_engine copies o ≡ true → ⊥
@@ -171,10 +162,9 @@ module _ (all : Dqbf) (numbered : List ℕ) (s : StoreState) (any : Dqbf) (engin
     (λ v n is. is),
     other_given all numbered s earlier origin c (not_copies engine (origin_engine origin) other h.own) (off c h.in_group),
   )
-  foreign earlier (Learned c hs) h = ((λ v n is. is), tt)
-  foreign earlier (Answer c hs) h = ((λ v n is. is), tt)
   foreign earlier (Round r bits j) h = absurd h
   foreign earlier (Begun live) h = absurd h
+  foreign earlier _ h = ((λ v n is. is), tt)
 
   all_foreign : (more : List Entry) → EachOf (IsAddedLive any engine groups silent old) more old →
       IsStore all numbered s (more ++ old)
@@ -239,13 +229,8 @@ AreNewGroups s t es =
 
 module _ (all : Dqbf) (numbered : List ℕ) (s t : StoreState) (grown : IsGrown s t) where
   name_kept : (n : Name) → IsStoredName all s n → IsStoredName all t n
-  name_kept (Selector g) h = tt
-  name_kept (Pair k y) h = tt
-  name_kept (Input x) h = tt
-  name_kept (And a b) h = tt
-  name_kept (Bad g j) h = tt
   name_kept (CopyOf side x) h = search arith
-  name_kept (Term a b) h = tt
+  name_kept _ h = tt
 
   copy_kept : (earlier : List Entry) (side j : ℕ) (c : List Literal) → IsStoredCopy all numbered s earlier side j c →
       IsStoredCopy all numbered t earlier side j c
@@ -272,17 +257,10 @@ module _ (all : Dqbf) (numbered : List ℕ) (s t : StoreState) (grown : IsGrown 
   entry_kept : (earlier : List Entry) (e : Entry) → AreNewGroups s t earlier → MayFollow earlier e →
       IsStoreEntry all numbered s earlier e → IsStoreEntry all numbered t earlier e
   entry_kept earlier (Named v n) new may h = name_kept n h
-  entry_kept earlier (Given (Instance k j) c) new may h = no_group earlier c new may h
-  entry_kept earlier (Given (Gate v i) c) new may h = no_group earlier c new may h
-  entry_kept earlier (Given (Fault j i leaf) c) new may h = no_group earlier c new may h
   entry_kept earlier (Given (Copy side j) c) new may h = copy_kept earlier side j c h
   entry_kept earlier (Given (Link x i) c) new may h = link_kept earlier x i c h
-  entry_kept earlier (Given (TermGate v i) c) new may h = no_group earlier c new may h
-  entry_kept earlier (Given (Differ y leaf i) c) new may h = no_group earlier c new may h
-  entry_kept earlier (Learned c hs) new may h = tt
-  entry_kept earlier (Answer c hs) new may h = tt
-  entry_kept earlier (Round r bits j) new may h = tt
-  entry_kept earlier (Begun numbers) new may h = tt
+  entry_kept earlier (Given _ c) new may h = no_group earlier c new may h
+  entry_kept earlier _ new may h = tt
 
   new_before : (e : Entry) (es : List Entry) → AreNewGroups s t (e ∷ es) → AreNewGroups s t es
   new_before e es new slot g has = search (arith, unnamed_before)

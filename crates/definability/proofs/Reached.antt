@@ -14,7 +14,7 @@ use Rattle.hint_log.specs.Growth.{Each}
 use Rattle.hint_log.specs.Reached.{Reaches, itself, by_hint}
 use Rattle.hint_log.specs.declared.names.Name.TheVariants.{Selector}
 use Rattle.hint_log.specs.declared.origins.Origin.{Origin}
-use Rattle.hint_log.specs.declared.origins.Origin.TheVariants.{Instance, Gate, Fault, Copy, Link, TermGate, Differ}
+use Rattle.hint_log.specs.declared.origins.Origin.TheVariants.{Instance, Gate, Fault}
 use Rattle.log_laws.specs.Engines.{circuits, instances, copies, origin_engine}
 use Rattle.log_laws.proofs.Found.{split_at, each_at}
 use Rattle.log_laws.proofs.ReachedClauses.{answer_true, name_stays}
@@ -83,7 +83,8 @@ pub is_given_entry : (es : List Entry) (i : ℕ) (c : List Literal) → IsSome (
     (origin : Origin) × (numbered has_id es i ≡ Some (Given origin c))
 is_given_entry es i c has is = search arith
 
--- a given clause that an answer's hints reach, with its group's selector, which the answer's clause negates
+-- a given clause that an answer's hints reach, with its group's selector, which the answer's clause
+-- negates
 pub record IsOfAnswer (es : List Entry) (clause : List Literal) (origin : Origin) (c : List Literal) : Type 0 where
   pub more : List Entry
   pub earlier : List Entry
@@ -157,21 +158,12 @@ IsOfCopies origin = origin_engine origin ≡ copies
 
 no_instance : (origin : Origin) → IsOfCopies origin → IsInstance origin → ⊥
 no_instance (Instance k j) own h = let e : instances ≡ copies = own in cc
-no_instance (Gate v i) own h = h
-no_instance (Fault j i leaf) own h = h
-no_instance (Copy side j) own h = h
-no_instance (Link v i) own h = h
-no_instance (TermGate v i) own h = h
-no_instance (Differ y leaf part) own h = h
+no_instance _ own h = h
 
 no_circuit : (group : ℕ) (origin : Origin) (c : List Literal) → IsOfCopies origin → IsCircuitGiven group origin c → ⊥
-no_circuit group (Instance k j) c own h = h
 no_circuit group (Gate v i) c own h = let e : circuits ≡ copies = own in cc
 no_circuit group (Fault j i leaf) c own h = let e : circuits ≡ copies = own in cc
-no_circuit group (Copy side j) c own h = h
-no_circuit group (Link v i) c own h = h
-no_circuit group (TermGate v i) c own h = h
-no_circuit group (Differ y leaf part) c own h = h
+no_circuit group _ c own h = h
 
 -- an answer that reaches no given clause but those of the copies decides nothing
 pub undecided_answer : LinesAreImplied → (f : Dqbf) (es : List Entry) (clause : List Literal) (hints : List ℕ) →

@@ -1,4 +1,5 @@
--- A store whose groups of some frames are active has the copies of the formula of these frames' clauses.
+-- A store whose groups of some frames are active has the copies of the formula of these frames'
+-- clauses.
 use Rattle.std.proofs.Common.{◌≡◌, ℕ, zero, suc, ◌≤◌, true, List, [], ◌∷◌, length, get_or, slice_get, Some, refl, sym, ◌∙◌, ap, subst, arith, ◌+◌, false}
 use Rattle.std.specs.List.{All, Contains}
 use Rattle.std.proofs.lemmas.Bool.{eq-eqb}
@@ -7,12 +8,12 @@ use Rattle.std.proofs.lemmas.Option.{slice_get-get_or, slice_get_within}
 use Rattle.list_laws.proofs.Members.{contains-filter_map, filter_map-from, contains_mapped}
 use Rattle.dq_lits.specs.Literal.{Literal, variable_of}
 use Rattle.dq_lits.specs.Formula.{Dqbf, declared, Existential}
-use Rattle.hint_log.specs.Entries.{Entry, Named, Given, Learned, Answer, Round, Begun}
+use Rattle.hint_log.specs.Entries.{Entry, Given}
 use Rattle.hint_log.specs.Growth.{Each}
 use Rattle.hint_log.specs.Live.{formula_of, with_matrix}
 use Rattle.hint_log.specs.Naming.{AreNamedAs, numbered_from_one, named_literal, name_literal}
 use Rattle.hint_log.specs.ProductiveSession.{frame_of}
-use Rattle.hint_log.specs.declared.origins.Origin.TheVariants.{Instance, Gate, Fault, Copy, Link, TermGate, Differ}
+use Rattle.hint_log.specs.declared.origins.Origin.TheVariants.{Copy, Link}
 use Rattle.hint_log.proofs.NamedEntries.{numbered_low}
 use Rattle.oracle.specs.declared.groups.Group.{Group}
 use Rattle.definability.specs.Copies.{IsCopied, IsCopiedIn, IsGroupGiven, IsSideGiven, IsLink, IsMatrixCopy, IsDefinability, copy_names, group_variable, is_copied_at, is_link_of, copies_of}
@@ -70,10 +71,6 @@ module _ (all : Dqbf) (numbered : List ℕ) (frames : List ℕ) (matrix : List (
 
   copy_entry : (side F : ℕ) (g : Group) → Contains frames F → HasGroup s (of_frame side F) g → (earlier : List Entry)
       (e : Entry) → IsStoreEntry all numbered s earlier e → IsSideGiven f side (group_variable g) earlier e
-  copy_entry side F g among has earlier (Named v n) h = tt
-  copy_entry side F g among has earlier (Given (Instance k j) c) h = λ inside. absurd (h (of_frame side F) g has inside)
-  copy_entry side F g among has earlier (Given (Gate v i) c) h = λ inside. absurd (h (of_frame side F) g has inside)
-  copy_entry side F g among has earlier (Given (Fault j i leaf) c) h = λ inside. absurd (h (of_frame side F) g has inside)
   copy_entry side F g among has earlier (Given (Copy m j) c) h = λ inside.
       let same = slot_side m (frame_of numbered j) side F (store.groups.apart (of_frame m (frame_of numbered j))
       (of_frame side F) h.group g h.has_group has
@@ -95,14 +92,8 @@ module _ (all : Dqbf) (numbered : List ℕ) (frames : List ℕ) (matrix : List (
       absurd (no_link side F h.place (store.groups.apart (of_link h.place) (of_frame side F) h.group g
       (omega (arith, done), h.group_is) has
       (in_one_group (group_variable h.group) (group_variable g) c h.in_group inside)))
-  copy_entry side F g among has earlier (Given (TermGate v i) c) h = λ inside.
-      absurd (h (of_frame side F) g has inside)
-  copy_entry side F g among has earlier (Given (Differ y leaf i) c) h = λ inside.
-      absurd (h (of_frame side F) g has inside)
-  copy_entry side F g among has earlier (Learned c hs) h = tt
-  copy_entry side F g among has earlier (Answer c hs) h = tt
-  copy_entry side F g among has earlier (Round r bits j) h = tt
-  copy_entry side F g among has earlier (Begun numbers) h = tt
+  copy_entry side F g among has earlier (Given _ c) h = λ inside. absurd (h (of_frame side F) g has inside)
+  copy_entry side F g among has earlier _ h = tt
 
   copy_entries : (side F : ℕ) (g : Group) → Contains frames F → HasGroup s (of_frame side F) g → (xs : List Entry) →
       Each (IsStoreEntry all numbered s) xs → Each (IsSideGiven f side (group_variable g)) xs
@@ -172,10 +163,6 @@ module _ (all : Dqbf) (numbered : List ℕ) (frames : List ℕ) (matrix : List (
   link_entry : (k x : ℕ) (g : Group) → slice_get (declared all) k ≡ Some x → HasGroup s (of_link k) g →
       (earlier : List Entry) (e : Entry) → IsStoreEntry all numbered s earlier e →
       IsGroupGiven f (is_link_of x) (group_variable g) earlier e
-  link_entry k x g x_is has earlier (Named v n) h = tt
-  link_entry k x g x_is has earlier (Given (Instance a j) c) h = λ inside. absurd (h (of_link k) g has inside)
-  link_entry k x g x_is has earlier (Given (Gate v i) c) h = λ inside. absurd (h (of_link k) g has inside)
-  link_entry k x g x_is has earlier (Given (Fault j i leaf) c) h = λ inside. absurd (h (of_link k) g has inside)
   link_entry k x g x_is has earlier (Given (Copy m j) c) h = λ inside.
       absurd (no_link m (frame_of numbered j) k (sym (store.groups.apart (of_frame m (frame_of numbered j)) (of_link k)
       h.group g h.has_group has (in_one_group (group_variable h.group) (group_variable g) c h.in_group inside))))
@@ -196,12 +183,8 @@ module _ (all : Dqbf) (numbered : List ℕ) (frames : List ℕ) (matrix : List (
           one_leaf = λ v a b a' b' leaf leaf' rest' is. cc;
         },
       )
-  link_entry k x g x_is has earlier (Given (TermGate v i) c) h = λ inside. absurd (h (of_link k) g has inside)
-  link_entry k x g x_is has earlier (Given (Differ y leaf i) c) h = λ inside. absurd (h (of_link k) g has inside)
-  link_entry k x g x_is has earlier (Learned c hs) h = tt
-  link_entry k x g x_is has earlier (Answer c hs) h = tt
-  link_entry k x g x_is has earlier (Round r bits j) h = tt
-  link_entry k x g x_is has earlier (Begun numbers) h = tt
+  link_entry k x g x_is has earlier (Given _ c) h = λ inside. absurd (h (of_link k) g has inside)
+  link_entry k x g x_is has earlier _ h = tt
 
   link_entries : (k x : ℕ) (g : Group) → slice_get (declared all) k ≡ Some x → HasGroup s (of_link k) g →
       (xs : List Entry) → Each (IsStoreEntry all numbered s) xs → Each (IsGroupGiven f (is_link_of x) (group_variable g)) xs

@@ -2,7 +2,7 @@
 use Rattle.std.proofs.Common.{ℕ, inl, inr, List, [], ◌∷◌, ◌++◌, refl, sym, subst, arith}
 use Rattle.list_laws.proofs.Members.{contains_later, contains_cases}
 use Rattle.dq_lits.specs.Literal.{Literal}
-use Rattle.hint_log.specs.Entries.{Entry, Named, Given, Learned, Answer, Round, Begun, ProofLog}
+use Rattle.hint_log.specs.Entries.{Entry, Given, Learned, Answer, ProofLog}
 use Rattle.hint_log.specs.Growth.{EachOf, Grew}
 use Rattle.oracle.specs.Calls.{IsLearnedEntry, IsRefutedUnder}
 use Rattle.definability.specs.Growing.{HasSameGivens}
@@ -31,12 +31,8 @@ same_answer clause hints es = record {
 
 same_more : (more old : List Entry) → EachOf IsLearnedEntry more old → HasSameGivens old (more ++ old)
 same_more [] old each = same_nothing old
-same_more (Named v n ∷ more) old each = absurd each.0
-same_more (Given o c ∷ more) old each = absurd each.0
 same_more (Learned c hints ∷ more) old each = search (arith, same_then, (same_more more old each.1), same_learned)
-same_more (Answer c hints ∷ more) old each = absurd each.0
-same_more (Round row values j ∷ more) old each = absurd each.0
-same_more (Begun live ∷ more) old each = absurd each.0
+same_more (_ ∷ more) old each = absurd each.0
 
 pub learned_same : (old new : ProofLog) → Grew IsLearnedEntry old new → HasSameGivens old.entries new.entries
 learned_same old new g = subst (HasSameGivens old.entries) (sym g.grown) (same_more g.more old.entries g.each)

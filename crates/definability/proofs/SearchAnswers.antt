@@ -7,7 +7,7 @@ use Rattle.dq_lits.specs.Literal.{Literal, positive, negative, variable_of}
 use Rattle.dq_lits.specs.Formula.{Dqbf, Existential, existential_of, declared}
 use Rattle.dq_lits.proofs.FormulaVariables.{find_sound}
 use Rattle.hint_log.specs.Conditions.{IsId, AreLogged}
-use Rattle.hint_log.specs.Entries.{Entry, Named, Given, Learned, Answer, Round, Begun, ProofLog, has_id, numbered, last_id, name_of}
+use Rattle.hint_log.specs.Entries.{Entry, Learned, Answer, ProofLog, has_id, numbered, last_id, name_of}
 use Rattle.hint_log.specs.Deciding.{DecidesNothing}
 use Rattle.hint_log.specs.Growth.{Grew}
 use Rattle.hint_log.specs.Naming.{AreNamedAs}
@@ -34,12 +34,8 @@ use Rattle.definability.proofs.SameGivens.{learned_same, refuted_same}
 
 learned_is_added : (f : Dqbf) (group : ℕ) (silent : Bool) (old earlier : List Entry) (e : Entry) →
     IsLearnedEntry earlier e → IsAddedBy f copies group silent old earlier e
-learned_is_added f group silent old earlier (Named v n) h = absurd h
-learned_is_added f group silent old earlier (Given origin c) h = absurd h
 learned_is_added f group silent old earlier (Learned c hints) h = tt
-learned_is_added f group silent old earlier (Answer c hints) h = absurd h
-learned_is_added f group silent old earlier (Round row values j) h = absurd h
-learned_is_added f group silent old earlier (Begun live) h = absurd h
+learned_is_added f group silent old earlier _ h = absurd h
 
 -- a search that logs no answer, wherever one begins to look
 pub learned_from : (f : Dqbf) (start : List Entry) (old new : ProofLog) → Grew IsLearnedEntry old new → (group : ℕ) →

@@ -5,7 +5,7 @@ use Rattle.std.proofs.lemmas.List.{get_or_default}
 use Rattle.std.proofs.lemmas.List.Elements.{Contains-append_right}
 use Rattle.dq_lits.specs.Literal.{Literal}
 use Rattle.dq_lits.specs.Formula.{Dqbf}
-use Rattle.hint_log.specs.Entries.{Entry, Named, Given, Learned, Answer, Round, Begun, ProofLog, name_of}
+use Rattle.hint_log.specs.Entries.{Entry, Given, ProofLog, name_of}
 use Rattle.hint_log.specs.Growth.{Grew}
 use Rattle.hint_log.specs.declared.origins.Origin.{Origin}
 use Rattle.log_laws.specs.Engines.{Engine, IsInGroup}
@@ -33,23 +33,15 @@ module _ (f any : Dqbf) (engine : Engine) (groups : List ℕ) (silent : Bool) (o
 
   other_group : (test : Origin → Bool) (mine : ℕ) → IsApart mine → (earlier : List Entry) (e : Entry) →
       IsAddedLive any engine groups silent old earlier e → IsGroupGiven f test mine earlier e
-  other_group test mine apart earlier (Named v m) h = tt
   other_group test mine apart earlier (Given origin c) h = λ inside.
       absurd (not_given mine apart earlier origin c h inside)
-  other_group test mine apart earlier (Learned c hints) h = tt
-  other_group test mine apart earlier (Answer c hints) h = tt
-  other_group test mine apart earlier (Round row values j) h = tt
-  other_group test mine apart earlier (Begun live) h = tt
+  other_group test mine apart earlier _ h = tt
 
   other_side : (side mine : ℕ) → IsApart mine → (earlier : List Entry) (e : Entry) →
       IsAddedLive any engine groups silent old earlier e → IsSideGiven f side mine earlier e
-  other_side side mine apart earlier (Named v m) h = tt
   other_side side mine apart earlier (Given origin c) h = λ inside.
       absurd (not_given mine apart earlier origin c h inside)
-  other_side side mine apart earlier (Learned c hints) h = tt
-  other_side side mine apart earlier (Answer c hints) h = tt
-  other_side side mine apart earlier (Round row values j) h = tt
-  other_side side mine apart earlier (Begun live) h = tt
+  other_side side mine apart earlier _ h = tt
 
 keeps_by_session : EnginesLeaveSessions → (f any : Dqbf) (engine : Engine) (groups : List ℕ) (silent : Bool) (old new : ProofLog) →
     Grew (IsAddedLive any engine groups silent old.entries) old new →

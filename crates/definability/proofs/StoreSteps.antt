@@ -3,7 +3,7 @@ use Rattle.std.proofs.Common.{◌≡◌, ◌≢◌, ℕ, zero, suc, ◌<◌, tru
 use Rattle.std.specs.List.{Contains}
 use Rattle.dq_lits.specs.Literal.{Literal}
 use Rattle.dq_lits.specs.Formula.{Dqbf}
-use Rattle.hint_log.specs.Entries.{Entry, Named, Given, Learned, Answer, Round, Begun, ProofLog, with_entry, name_of}
+use Rattle.hint_log.specs.Entries.{Entry, Named, Given, Learned, Answer, ProofLog, with_entry, name_of}
 use Rattle.hint_log.specs.ProductiveLog.{fault_groups, fault_room}
 use Rattle.hint_log.proofs.NamedEntries.{unnamed_before}
 use Rattle.log_laws.specs.Engines.{copies}
@@ -53,10 +53,7 @@ copied_then a b c x y = record {
 pub copied_entry : (e : Entry) (es : List Entry) → is_copy_entry e ≡ true → HasCopied es (e ∷ es)
 copied_entry (Named w m) es own = search (arith, name_cases, contains_cases)
 copied_entry (Given origin d) es own = search (arith, contains_cases)
-copied_entry (Learned c hs) es own = cc
-copied_entry (Answer c hs) es own = cc
-copied_entry (Round r values j) es own = cc
-copied_entry (Begun live) es own = cc
+copied_entry _ es own = cc
 
 pub copied_all : (P : List Entry → Entry → Type 0) → ((earlier : List Entry) (e : Entry) → P earlier e →
     is_copy_entry e ≡ true) → (more old : List Entry) → EachOf P more old → HasCopied old (more ++ old)
@@ -121,8 +118,7 @@ module _ (all : Dqbf) (numbered : List ℕ) (a b c : StoreState) (first middle l
   }
   added earlier (Learned d hs) h = tt
   added earlier (Answer d hs) h = h
-  added earlier (Round r values j) h = absurd h
-  added earlier (Begun live) h = absurd h
+  added earlier _ h = absurd h
 
   pub following_then : IsFollowing all numbered a first c last
   following_then = record {

@@ -1,5 +1,5 @@
--- Conditions of a question: which of them copies can meet, and bits of universals that meet the others,
--- for private contracts.
+-- Conditions of a question: which of them copies can meet, and bits of universals that meet the
+-- others, for private contracts.
 use Rattle.std.specs.Prelude.{◌≡◌, ◌≢◌, ◌<◌, ◌==◌, ℕ, Bool, not, List, length, Some, slice_get}
 use Rattle.std.specs.List.{position_or_len}
 use Rattle.dq_lits.specs.Formula.{Dqbf}

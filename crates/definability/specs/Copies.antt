@@ -76,8 +76,8 @@ abbrev pub copy_names : ℕ → List Literal → List NamedLiteral
 copy_names side clause =
     map (λ l. named_literal (CopyOf side (variable_of l)) (is_negative l)) clause
 
--- whether the variable at a place among the declared ones, universals first, has copies: a flag says
--- so of a universal, and existentials have them
+-- whether the variable at a place among the declared ones, universals first, has copies: a flag
+-- says so of a universal, and existentials have them
 abbrev pub is_copied_at : List Bool → ℕ → Bool
 is_copied_at flags k = slice_index_or flags k true
 
@@ -138,8 +138,8 @@ pub record IsLink (f : Dqbf) (x : ℕ) (group : Group) (entries : List Entry) : 
   pub whole : (i : ℕ) → (i ≡ 1) ⊎ (i ≡ 2)
       → IsGivenIn entries (group_variable group) (Link x i) (link_names x i)
 
--- the copies, of which the variables of all clauses have some, and an equation for each variable that
--- has copies; clauses have no numbers here
+-- the copies, of which the variables of all clauses have some, and an equation for each variable
+-- that has copies; clauses have no numbers here
 pub record IsDefinability (f : Dqbf) (p : Definability) (entries : List Entry) : Type 0 where
   pub as_many_flags : length p.copied.items ≡ length f.universals
   pub covered : (clause : List Literal) → Contains f.matrix clause

@@ -75,8 +75,8 @@ abbrev pub CanFollow : Dqbf → Definability → List Entry → Type 0
 CanFollow f p entries =
     (all : Dqbf) × (numbered : List ℕ) × CanGiveCopies all numbered f (store_of p) entries
 
--- what a call leaves that makes copies of variables: whatever the store was, it follows, and what was
--- given and the groups of clauses are as before
+-- what a call leaves that makes copies of variables: whatever the store was, it follows, and what
+-- was given and the groups of clauses are as before
 pub record HasMore (f : Dqbf) (p : Definability) (old : ProofLog) (q : Definability) (new : ProofLog) : Type 0 where
   pub follows : (all : Dqbf) (numbered : List ℕ) → CanGiveCopies all numbered f (store_of p) old.entries
       → IsFollowing all numbered (store_of p) old (store_of q) new

@@ -18,8 +18,8 @@ pub record HasNothing (p : Definability) : Type 0 where
   pub first_groups : p.first.groups.items ≡ []
   pub second_groups : p.second.groups.items ≡ []
 
--- places for the copies of all declared variables, none of which has any, and for all clauses; a spare
--- group where equations will have theirs
+-- places for the copies of all declared variables, none of which has any, and for all clauses; a
+-- spare group where equations will have theirs
 pub record HasNoCopies (f : Dqbf) (spare : Group) (p : Definability) : Type 0 where
   pub first : length p.first.universals.items ≡ length f.universals
   pub second : length p.second.universals.items ≡ length f.universals

@@ -1,5 +1,5 @@
--- What leaves the copies as they stand: what other engines add to the log, and rounds; and flags that
--- are set, for private contracts.
+-- What leaves the copies as they stand: what other engines add to the log, and rounds; and flags
+-- that are set, for private contracts.
 use Rattle.std.specs.Prelude.{◌≡◌, ◌≢◌, ℕ, Bool, true, List, ◌∷◌, length}
 use Rattle.std.specs.List.{All}
 use Rattle.dq_lits.specs.Formula.{Dqbf}

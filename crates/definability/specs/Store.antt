@@ -1,5 +1,5 @@
--- What was given of the copies in a session, in which clauses come and go in frames: which clauses, by
--- side, in which groups, and which parts of the copies of each universal.
+-- What was given of the copies in a session, in which clauses come and go in frames: which clauses,
+-- by side, in which groups, and which parts of the copies of each universal.
 use Rattle.std.specs.Prelude.{◌≡◌, ℕ, zero, suc, ◌+◌, ◌-◌, ◌≤◌, ◌<◌, Bool, true, List, ◌∷◌, ◌++◌, map, length, Option, None, Some, slice_get, slice_index_or, [], false}
 use Rattle.std.specs.List.{All, Contains}
 use Rattle.dq_lits.specs.Literal.{Literal, variable_of}
@@ -25,9 +25,9 @@ pub record SideCopies : Type 0 where
   pub universals : List Literal
   pub existentials : List Literal
 
--- the copies of both sides; which universals have copies, and how many parts of the declared variables'
--- copies there are; the groups of equations; on how many sides each clause was given, by its number from
--- 1 on; each frame's groups, by its number; and the frames' groups that are active
+-- the copies of both sides; which universals have copies, and how many parts of the declared
+-- variables' copies there are; the groups of equations; on how many sides each clause was given, by
+-- its number from 1 on; each frame's groups, by its number; and the frames' groups that are active
 pub record StoreState : Type 0 where
   pub first : SideCopies
   pub second : SideCopies
@@ -56,8 +56,8 @@ store_of p = record {
   active = p.first.groups.items ++ p.second.groups.items;
 }
 
--- how many parts a declared variable has, by its place: its first copy, its second, the group of their
--- equation, and the equation's two clauses
+-- how many parts a declared variable has, by its place: its first copy, its second, the group of
+-- their equation, and the equation's two clauses
 abbrev pub parts_in : List ℕ → ℕ → ℕ
 parts_in parts k = slice_index_or parts k 5
 
