@@ -1,5 +1,5 @@
--- An exported refutation names each pair by some row that it keeps; by the pairs' own numbers its lines
--- are derived.
+-- An exported refutation names each pair by some row that it keeps; by the pairs' own numbers its
+-- lines are derived.
 use Rattle.std.proofs.Common.{◌≡◌, ℕ, ◌+◌, Bool, false, List, [], ◌∷◌, map, length, None, Some, refl, sym, ◌∙◌, ap, subst, arith}
 use Rattle.std.proofs.lemmas.List.{length-map}
 use Rattle.std.proofs.lemmas.List.Kept.{AllPairs-from_increasing}
@@ -7,11 +7,9 @@ use Rattle.dq_lits.specs.Literal.{Literal, opposite}
 use Rattle.dq_lits.specs.Formula.{Dqbf, IsWellFormed}
 use Rattle.dq_lits.specs.Expansion.{instance_at}
 use Rattle.dq_lits.proofs.SignedLiterals.{variable_of-on, on-on}
-use Rattle.hint_log.specs.Entries.{has_id, numbered, clause_at}
+use Rattle.hint_log.specs.Entries.{has_id, numbered, clause_at, Given, Entry}
 use Rattle.hint_log.specs.Reached.{Reaches, AreReached}
 use Rattle.hint_log.specs.declared.origins.Origin.{Origin}
-use Rattle.hint_log.specs.Entries.{Given}
-use Rattle.hint_log.specs.Entries.{Entry}
 use Rattle.refutation_checker.specs.Refutation.{normal_number, normal_literal, normal_step, refutation_fault}
 use Rattle.rup_core.specs.Items.{derived, items_fault}
 use Rattle.rup_core.proofs.DeletedClauses.{steps_alone}

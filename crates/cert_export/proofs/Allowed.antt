@@ -5,10 +5,9 @@ use Rattle.std.specs.Option.{option_map}
 use Rattle.std.proofs.lemmas.Bool.{eq-eqb, ne_eqb}
 use Rattle.std.proofs.lemmas.List.Elements.{All-nil, All-cons, Contains-get_or}
 use Rattle.dq_lits.specs.Literal.{Literal, variable_of, on_variable, opposite}
-use Rattle.dq_lits.specs.Derivation.{LiveClauses, ClauseStatus, falsified, unit, stuck, status_of}
+use Rattle.dq_lits.specs.Derivation.{LiveClauses, ClauseStatus, unit, status_of}
 use Rattle.dq_lits.proofs.SignedLiterals.{variable_of-on}
-use Rattle.hint_log.specs.Entries.{has_id, numbered}
-use Rattle.hint_log.specs.Entries.{Entry}
+use Rattle.hint_log.specs.Entries.{has_id, numbered, Entry}
 use Rattle.hint_log.specs.declared.origins.Origin.{Origin}
 use Rattle.cert_text.specs.Grammar.{AreSteps}
 use Rattle.cert_export.specs.Lines.{line_number, hints_or_none, number_by, new_number, renamed_clauses, line_clause, line_hints, line_steps}
@@ -57,9 +56,8 @@ module _ (P : ℕ → Type 0) where
       (λ k d below. h (suc k) d (omega arith)))) where
         by_status : (s : ClauseStatus) → ((l : Literal) → All P (cut_hints live (l ∷ trues) hints)) →
             All P (cut_by s (λ l. cut_hints live (l ∷ trues) hints))
-        by_status falsified later = All-nil P
         by_status (unit l) later = later l
-        by_status stuck later = All-nil P
+        by_status _ later = All-nil P
 
   pub mapped_all : (g : ℕ → ℕ) (xs : List ℕ) → All (λ x. P (g x)) xs → All P (map g xs)
   mapped_all g [] h = All-nil P

@@ -6,10 +6,8 @@ use Rattle.std.proofs.lemmas.Bool.{eq-eqb, cond-true}
 use Rattle.std.proofs.lemmas.List.Elements.{All-head, All-tail}
 use Rattle.dq_lits.specs.Derivation.{is_empty}
 use Rattle.dq_lits.specs.Literal.{Literal, negative, variable_of, on_variable}
-use Rattle.hint_log.specs.Entries.{has_id, last_id, numbered, hints_of, hints_at, name_of}
+use Rattle.hint_log.specs.Entries.{has_id, last_id, numbered, hints_of, hints_at, name_of, Entry, Given, Answer}
 use Rattle.hint_log.specs.Reached.{Reaches, itself, by_hint}
-use Rattle.hint_log.specs.Entries.{Entry}
-use Rattle.hint_log.specs.Entries.{Given, Answer}
 use Rattle.hint_log.specs.declared.names.Name.TheVariants.{Selector}
 use Rattle.hint_log.specs.declared.origins.Origin.{Origin}
 use Rattle.hint_log.specs.Growth.{Each}

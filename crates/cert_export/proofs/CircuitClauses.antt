@@ -22,7 +22,7 @@ use Rattle.hint_log.specs.declared.names.Name.TheVariants.{Selector, Input, And,
 use Rattle.hint_log.specs.declared.origins.Leaf.{Leaf}
 use Rattle.hint_log.specs.declared.origins.Leaf.TheVariants.{Constant, Literal as LeafLiteral}
 use Rattle.hint_log.specs.declared.origins.Origin.{Origin}
-use Rattle.hint_log.specs.declared.origins.Origin.TheVariants.{Instance, Gate as GateOf, Fault, Copy, Link, TermGate, Differ}
+use Rattle.hint_log.specs.declared.origins.Origin.TheVariants.{Gate as GateOf, Fault}
 use Rattle.circuit_plain.specs.Netlist.{Netlist}
 use Rattle.circuit_plain.specs.declared.circuits.Gate.{Gate}
 use Rattle.cert_text.specs.NegatedMatrix.{opposite_of, gate_clauses, literal_under, falsity_clauses, all_falsity_clauses, some_clause_false, without_constants}
@@ -393,7 +393,6 @@ module _ (f : Dqbf) (all : List Entry) (e : CircuitPart) (well : IsWellFormed f)
 
     clause_right : (origin : Origin) (c : List Literal) → IsOriginsClause f es origin c → IsCircuitClause f e origin c →
         IsRight origin c
-    clause_right (Instance k j) c o mine = absurd mine
     clause_right (GateOf v i) c o mine =
         with_group (GateOf v i) c o.rest o.group o.clause_is o.is_group (gate_right v i o.rest mine o.rest_is)
     clause_right (Fault zero zero out) c o mine =
@@ -407,10 +406,7 @@ module _ (f : Dqbf) (all : List Entry) (e : CircuitPart) (well : IsWellFormed f)
         let one : o.group ≡ e.group = cc in
         with_group (Fault (suc j) i out) c o.rest o.group o.clause_is o.is_group
         (fault_right j i out o.rest mine.1 (subst (λ n. IsFaultRest f es n (suc j) i out o.rest) one o.rest_is))
-    clause_right (Copy side j) c o mine = absurd mine
-    clause_right (Link v i) c o mine = absurd mine
-    clause_right (TermGate v i) c o mine = absurd mine
-    clause_right (Differ y leaf part) c o mine = absurd mine
+    clause_right _ c o mine = absurd mine
 
 pub circuit_clauses_are_negated_matrix : CircuitClausesAreNegatedMatrix
 circuit_clauses_are_negated_matrix f entries e well lawful given part id origin c at usable =

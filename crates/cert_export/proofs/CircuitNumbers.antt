@@ -8,9 +8,9 @@ use Rattle.list_laws.proofs.Members.{tested_inside}
 use Rattle.dq_lits.specs.Literal.{Literal, positive, negative, variable_of, is_negative, opposite, on_variable}
 use Rattle.dq_lits.specs.Formula.{Dqbf}
 use Rattle.hint_log.specs.Conditions.{is_circuit_name, MayFollow}
-use Rattle.hint_log.specs.Entries.{name_of, Entry, Named, Given, Learned, Answer, Round, Begun}
+use Rattle.hint_log.specs.Entries.{name_of, Entry, Named}
 use Rattle.hint_log.specs.declared.names.Name.{Name}
-use Rattle.hint_log.specs.declared.names.Name.TheVariants.{Selector, Pair, Input, And, Bad, Copy as CopyOf, Term}
+use Rattle.hint_log.specs.declared.names.Name.TheVariants.{Input, And, Bad}
 use Rattle.cert_text.specs.NegatedMatrix.{opposite_of, as_literal, without_constants}
 use Rattle.hint_log.specs.Growth.{Each}
 use Rattle.hint_log.specs.Naming.{numbered_from_one}
@@ -63,8 +63,6 @@ module _ (f : Dqbf) (e : CircuitPart) where
 
   pub number_cases : (v : ℕ) (o : Option Name) (x : ℕ) → circuit_number f e v o ≡ Some x → IsNumbered v o x
   number_cases v None x h = cc
-  number_cases v (Some (Selector g)) x h = cc
-  number_cases v (Some (Pair k y)) x h = cc
   number_cases v (Some (Input u)) x h = inl (u, refl, place_parts f.universals u x h)
   number_cases v (Some (And a b)) x h = by_option (place_from_one e.gates v) refl h where
     by_option : (o : Option ℕ) → place_from_one e.gates v ≡ o → option_map (λ p. length f.universals + p) o ≡ Some x →
@@ -90,8 +88,7 @@ module _ (f : Dqbf) (e : CircuitPart) where
         (numbered_from_one f.matrix j)) None ≡ Some x → IsNumbered v (Some (Bad g j)) x
     by_bit true is h = by_option (eqb-true g e.group is) (numbered_from_one f.matrix j) refl h
     by_bit false is h = cc
-  number_cases v (Some (CopyOf side u)) x h = cc
-  number_cases v (Some (Term p q)) x h = cc
+  number_cases v (Some _) x h = cc
 
   pub number_from_one : (v : ℕ) (o : Option Name) (x : ℕ) → circuit_number f e v o ≡ Some x → 1 ≤ x
   number_from_one v o x h = search (arith, number_cases)
@@ -125,11 +122,7 @@ pub inputs_by : (f : Dqbf) (P : List Entry → Entry → Type 0) → ((es : List
     Contains f.universals x
 inputs_by f P right [] v x given h = cc
 inputs_by f P right (Named w n ∷ es) v x given h = search (arith, (inputs_by f P right es v x given.1))
-inputs_by f P right (Given origin c ∷ es) v x given h = inputs_by f P right es v x given.1 h
-inputs_by f P right (Learned c hints ∷ es) v x given h = inputs_by f P right es v x given.1 h
-inputs_by f P right (Answer c hints ∷ es) v x given h = inputs_by f P right es v x given.1 h
-inputs_by f P right (Round row values j ∷ es) v x given h = inputs_by f P right es v x given.1 h
-inputs_by f P right (Begun live ∷ es) v x given h = inputs_by f P right es v x given.1 h
+inputs_by f P right (_ ∷ es) v x given h = inputs_by f P right es v x given.1 h
 
 -- a literal whose variable has a number
 pub record HasNumber (r : Renaming) (l : Literal) : Type 0 where
@@ -153,17 +146,13 @@ circuit_numbered f entries e given l circuit in_file = by_option (name_of entrie
   by_option : (o : Option Name) → name_of entries (variable_of l) ≡ o → is_circuit_name o ≡ true →
       HasNumber (circuit_renaming f entries e) l
   by_option None is h = cc
-  by_option (Some (Selector g)) is h = cc
-  by_option (Some (Pair k y)) is h = cc
   by_option (Some (Input x)) is h = numbered (position_or_len (λ z. z == x) f.universals + 1)
       (ap (circuit_number f e (variable_of l)) is ∙ place_there f.universals x (given (variable_of l) x is))
   by_option (Some (And a b)) is h = numbered (length f.universals +
       (position_or_len (λ z. z == variable_of l) e.gates + 1))
       (ap (circuit_number f e (variable_of l)) is ∙ ap (option_map (λ p. length f.universals + p))
       (place_there e.gates (variable_of l) (in_file a b is)))
-  by_option (Some (Bad g j)) is h = cc
-  by_option (Some (CopyOf side u)) is h = cc
-  by_option (Some (Term p q)) is h = cc
+  by_option (Some _) is h = cc
 
 module _ (r : Renaming) where
   pub code_at : (l : Literal) (h : HasNumber r l) → literal_code r l ≡ aiger_literal (is_negative l) h.number

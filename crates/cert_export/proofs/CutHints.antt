@@ -19,9 +19,8 @@ cut_by_ids to live own (h ∷ hs) same trues =
       by_status : (s : ClauseStatus) → ((l : Literal) → cut_hints live (l ∷ trues) (map to hs) ≡ map to
           (cut_hints own (l ∷ trues) hs)) →
           cut_by s (λ l. cut_hints live (l ∷ trues) (map to hs)) ≡ map to (cut_by s (λ l. cut_hints own (l ∷ trues) hs))
-      by_status falsified later = refl
       by_status (unit l) later = later l
-      by_status stuck later = refl
+      by_status _ later = refl
 
 -- a fault stands where the hints are cut
 abbrev pub up_to_fault : Option ℕ → ℕ → List ℕ → List ℕ

@@ -6,16 +6,13 @@ use Rattle.std.proofs.lemmas.Bool.{false≢true, eq-eqb, ne_eqb, cond-true, cond
 use Rattle.std.proofs.lemmas.List.Elements.{Contains-get_or}
 use Rattle.dq_lits.specs.Literal.{Literal, opposite}
 use Rattle.dq_lits.specs.Derivation.{LiveClauses, with_clause, unfinished, is_empty, line_fault, fault_of_step, steps_fault, IsDerived}
-use Rattle.hint_log.specs.Conditions.{IsId, AreIds}
-use Rattle.hint_log.specs.Entries.{has_id, numbered, clause_of, clause_at, hints_of}
-use Rattle.hint_log.specs.Entries.{Entry}
-use Rattle.hint_log.specs.Entries.{Named, Given, Learned, Answer, Round, Begun}
+use Rattle.hint_log.specs.Conditions.{IsId, AreIds, MayFollow}
+use Rattle.hint_log.specs.Entries.{has_id, numbered, clause_of, clause_at, hints_of, Entry, Given, Learned, Answer}
 use Rattle.hint_log.specs.declared.origins.Origin.{Origin}
 use Rattle.hint_log.specs.Growth.{Each}
 use Rattle.cert_export.specs.Renaming.{Renaming, IsInjective, renamed_clause, cut_hints, IsRenamedAt}
 use Rattle.cert_export.specs.Lines.{clause_or_empty, hints_or_none, number_by, new_number, renamed_clauses, line_clause, line_step, line_steps}
 use Rattle.cert_export.specs.LineOrder.{IsBaseId, IsHintable, IsNextLine, AreLines, AreFinished, IsRenamedBase}
-use Rattle.hint_log.specs.Conditions.{MayFollow}
 use Rattle.hint_log.specs.ProductiveLog.{IsDerivedByHints}
 use Rattle.log_laws.proofs.ReachedClauses.{numbered_kept}
 use Rattle.log_laws.proofs.Found.{each_at, split_at}
@@ -28,12 +25,10 @@ pub clause_there : (es : List Entry) (h : ℕ) → IsId es h → (c : List Liter
 clause_there es h id = let t = there_is es h id.from_one id.last in by_entry t.0 t.1 (entry_at es h t.0 t.1).has where
   by_entry : (e : Entry) → numbered has_id es h ≡ Some e → has_id e ≡ true →
       (c : List Literal) × (clause_at es h ≡ Some c)
-  by_entry (Named v n) at has = absurd (false≢true has)
   by_entry (Given origin c) at has = (c, ap (option_and_then clause_of) at)
   by_entry (Learned c hints) at has = (c, ap (option_and_then clause_of) at)
   by_entry (Answer c hints) at has = (c, ap (option_and_then clause_of) at)
-  by_entry (Round row values j) at has = absurd (false≢true has)
-  by_entry (Begun live) at has = absurd (false≢true has)
+  by_entry _ at has = absurd (false≢true has)
 
 module _ (r : Renaming) (base_id : Origin → ℕ) (usable : Origin → List Literal → Type 0) (first : LiveClauses)
     (base : ℕ) (all : List Entry) (number : ℕ → ℕ)

@@ -8,7 +8,7 @@ use Rattle.dq_lits.specs.Literal.{Literal}
 use Rattle.cert_text.specs.Header.{max_count}
 use Rattle.hint_log.specs.declared.origins.Origin.{Origin}
 use Rattle.hint_log.specs.declared.origins.Origin.TheVariants.{Instance}
-use Rattle.hint_log.specs.Entries.{Entry, Named, Given, Learned, Answer, Round, Begun, ProofLog, has_id, numbered, rounds_of, steps_of}
+use Rattle.hint_log.specs.Entries.{Entry, Given, Round, ProofLog, has_id, numbered, rounds_of, steps_of}
 use Rattle.hint_log.specs.Growth.{Each}
 use Rattle.cert_export.specs.Exportable.{IsKnownInstance, AreExportable, AreExported, AreExportedSteps, HaveRounds}
 use Rattle.cert_export.specs.Exported.{IsPairNaming, IsPairRenaming, exported_steps, CanExportFalse}
@@ -125,12 +125,8 @@ pub rows_whole : (n : ℕ) (P : List Entry → Entry → Type 0) → ((es : List
     P es (Round row values j) → length row ≡ n) → (es : List Entry) → Each P es →
     All (λ row. length row ≡ n) (rows_of es)
 rows_whole n P whole [] h = All-nil (λ row. length row ≡ n)
-rows_whole n P whole (Named v m ∷ es) h = rows_whole n P whole es h.1
-rows_whole n P whole (Given origin c ∷ es) h = rows_whole n P whole es h.1
-rows_whole n P whole (Learned c hints ∷ es) h = rows_whole n P whole es h.1
-rows_whole n P whole (Answer c hints ∷ es) h = rows_whole n P whole es h.1
 rows_whole n P whole (Round row values j ∷ es) h = search (arith, All-push, (rows_whole n P whole es h.1))
-rows_whole n P whole (Begun live ∷ es) h = rows_whole n P whole es h.1
+rows_whole n P whole (_ ∷ es) h = rows_whole n P whole es h.1
 
 -- the checker finds no fault in the exported lines
 pub exported_accepted : (f : Dqbf) (live : List ℕ) (entries : List Entry) (id : ℕ) (ids : List ℕ) (d : Dqr) →

@@ -10,7 +10,7 @@ use Rattle.dq_lits.specs.Formula.{Dqbf, IsWellFormed, HasLawfulPrefix}
 use Rattle.dq_lits.specs.Literal.{Literal}
 use Rattle.dq_lits.proofs.FormulaVariables.{few_declared}
 use Rattle.hint_log.specs.Conditions.{IsId, AreLogged, AreNamed}
-use Rattle.hint_log.specs.Entries.{Entry, Named, Given, Learned, Answer, Round, Begun, ProofLog, has_id, numbered, clause_of, clause_at, last_id, count, name_of}
+use Rattle.hint_log.specs.Entries.{Entry, Given, Learned, Answer, ProofLog, has_id, numbered, clause_of, clause_at, last_id, count, name_of}
 use Rattle.hint_log.specs.Growth.{Each}
 use Rattle.hint_log.specs.Naming.{numbered_from_one}
 use Rattle.hint_log.specs.Origins.{IsOriginsClause, IsFaultRest}
@@ -18,7 +18,7 @@ use Rattle.hint_log.specs.ProductiveLog.{IsDerivedByHints}
 use Rattle.hint_log.specs.Reached.{Reaches, by_hint, AreReached}
 use Rattle.hint_log.specs.declared.origins.Leaf.{Leaf}
 use Rattle.hint_log.specs.declared.origins.Origin.{Origin}
-use Rattle.hint_log.specs.declared.origins.Origin.TheVariants.{Instance, Gate, Fault, Copy, Link, TermGate, Differ}
+use Rattle.hint_log.specs.declared.origins.Origin.TheVariants.{Gate, Fault}
 use Rattle.hint_log.proofs.NamedEntries.{number_below}
 use Rattle.log_laws.proofs.Found.{each_at, split_at}
 use Rattle.log_laws.proofs.Solved.{split_literal}
@@ -59,8 +59,6 @@ derived_consistent entries r lemmas injective id learned = by_entry (numbered ha
   by_entry : (o : Option Entry) → numbered has_id entries id ≡ o → is_derived o ≡ true →
       is_tautology (renamed_clause r (clause_or_empty (numbered has_id entries id))) ≡ false
   by_entry None at d = cc
-  by_entry (Some (Named v n)) at d = cc
-  by_entry (Some (Given origin c)) at d = cc
   by_entry (Some (Learned c hints)) at d =
       let p = split_at entries id (Learned c hints) at in
       let own : IsDerived (clause_at p.1) c hints = each_at IsDerivedByHints p.0 p.1 (Learned c hints)
@@ -73,8 +71,7 @@ derived_consistent entries r lemmas injective id learned = by_entry (numbered ha
       (subst (Each IsDerivedByHints) p.2 lemmas) in
       ap (λ x. is_tautology (renamed_clause r (clause_or_empty x))) at ∙ renamed_consistent r
       (clause_at p.1) injective c hints own
-  by_entry (Some (Round row values j)) at d = cc
-  by_entry (Some (Begun live)) at d = cc
+  by_entry (Some _) at d = cc
 
 module _ (f : Dqbf) (entries : List Entry) (id : ℕ) (ids : List ℕ) (e : CircuitPart)
     (d : AreCircuitIds f entries id ids e) where
@@ -113,13 +110,9 @@ module _ (f : Dqbf) (entries : List Entry) (id : ℕ) (ids : List ℕ) (e : Circ
       (of_circuit origin mine at, base.1) where
         of_circuit : (o : Origin) → IsCircuitClause f e o c → numbered has_id entries h ≡ Some (Given o c) →
             IsOfCircuit f.matrix e.gates o
-        of_circuit (Instance k j) mine at = absurd mine
         of_circuit (Gate v i) mine at = mine
         of_circuit (Fault j i out) mine at = below_matrix h j i out c inside at
-        of_circuit (Copy side j) mine at = absurd mine
-        of_circuit (Link v i) mine at = absurd mine
-        of_circuit (TermGate v i) mine at = absurd mine
-        of_circuit (Differ y leaf part) mine at = absurd mine
+        of_circuit _ mine at = absurd mine
 
   pub can_be_written : (r : Renaming) → IsCircuitRenaming f entries e ids r →
       CanBeWritten r (HasNegatedId f.matrix e.gates) entries ids

@@ -20,7 +20,7 @@ use Rattle.hint_log.specs.Origins.{IsOriginsClause}
 use Rattle.hint_log.specs.ProductiveLog.{MatchesOrigin, RefutesNewRow, IsDerivedByHints, IsProductiveLog}
 use Rattle.hint_log.specs.ProductiveSession.{MatchesLiveOrigin, RefutesNewLiveRow, IsSinceBeginning, DecidesLiveTrue, IsProductiveSession}
 use Rattle.hint_log.specs.declared.origins.Origin.{Origin}
-use Rattle.hint_log.specs.declared.origins.Origin.TheVariants.{Instance, Gate, Fault, Copy, Link, TermGate, Differ}
+use Rattle.hint_log.specs.declared.origins.Origin.TheVariants.{Instance}
 use Rattle.hint_log.proofs.NamedEntries.{live_are_numbers}
 use Rattle.log_laws.specs.Meaning.{IsSoundAnswer}
 use Rattle.log_laws.proofs.Found.{each_at, split_at}
@@ -80,12 +80,7 @@ module _ (f : Dqbf) (entries : List Entry) (id : ℕ) (lawful : Each MayFollow e
         λ more before is. subst (λ i. IsOriginsClause f before (Instance k i) c)
             (sym (own_number (length f.matrix) j number.0 number.1)) (own_origin (Instance k j) c more before is),
       )
-  instance_clause h (Gate v i) c mine at = absurd mine
-  instance_clause h (Fault j i leaf) c mine at = absurd mine
-  instance_clause h (Copy side j) c mine at = absurd mine
-  instance_clause h (Link v i) c mine at = absurd mine
-  instance_clause h (TermGate v i) c mine at = absurd mine
-  instance_clause h (Differ y leaf part) c mine at = absurd mine
+  instance_clause h _ c mine at = absurd mine
 
   can_export_false : IsRefutedBy entries id → CanExportFalse f (range_with_len 1 (length f.matrix)) entries id
   can_export_false refuted = record {
@@ -200,12 +195,7 @@ module _ (all : Dqbf) (frames live : List ℕ) (entries : List Entry) (id : ℕ)
     among k j refl,
     λ more before is. live_instance all live before k j c numbers (among k j refl) (live_origin k j c more before is),
   )
-  live_instance_clause (Gate v i) c mine among = absurd mine
-  live_instance_clause (Fault j i leaf) c mine among = absurd mine
-  live_instance_clause (Copy side j) c mine among = absurd mine
-  live_instance_clause (Link v i) c mine among = absurd mine
-  live_instance_clause (TermGate v i) c mine among = absurd mine
-  live_instance_clause (Differ y leaf part) c mine among = absurd mine
+  live_instance_clause _ c mine among = absurd mine
 
   session_false : (refuted : IsRefutedBy entries id) → RestsOnLive live entries id refuted →
       CanExportFalse (formula_of all live) live entries id

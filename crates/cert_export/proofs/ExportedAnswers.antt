@@ -1,4 +1,5 @@
--- An answer that shows outputs to be right is exported as a proof that the checker accepts and that a text can hold.
+-- An answer that shows outputs to be right is exported as a proof that the checker accepts and that
+-- a text can hold.
 use Rattle.std.proofs.Common.{◌≡◌, nat_le, ℕ, ◌+◌, true, false, List, [], map, None, Some, refl, ◌∙◌, ap, subst, arith}
 use Rattle.std.proofs.lemmas.Bool.{and_from, le-leb}
 use Rattle.std.proofs.lemmas.List.{length-map}
@@ -12,7 +13,7 @@ use Rattle.hint_log.specs.Growth.{Each}
 use Rattle.hint_log.specs.ProductiveLog.{IsDerivedByHints}
 use Rattle.hint_log.specs.Reached.{Reaches, AreReached}
 use Rattle.hint_log.specs.declared.origins.Origin.{Origin}
-use Rattle.hint_log.specs.declared.origins.Origin.TheVariants.{Instance, Gate, Fault, Copy, Link, TermGate, Differ}
+use Rattle.hint_log.specs.declared.origins.Origin.TheVariants.{Gate, Fault}
 use Rattle.rup_core.specs.Items.{derived}
 use Rattle.rup_core.proofs.DeletedClauses.{steps_alone}
 use Rattle.cert_text.specs.CircuitProof.{is_proof_variable, first_proof_id}
@@ -43,16 +44,12 @@ module _ (f : Dqbf) (entries : List Entry) (id : ℕ) (e : CircuitPart) (lawful 
         by_origin : (o : Origin) → ReachesGiven x.decided.earlier x.decided.hints o c →
             IsCircuitGiven x.decided.decides.rests.group o c → numbered has_id entries h ≡ Some (Given o c) →
             IsCircuitClause f e o c
-        by_origin (Instance k j) there mine at = absurd mine
         by_origin (Gate v i) there mine at = x.used h v i c reached at
         by_origin (Fault j i out) there mine at = (
           x.group h j i out c reached at,
           λ k d below own. x.outs k d below out (record { j = j; i = i; clause = c; reached = there; own = own }),
         )
-        by_origin (Copy side j) there mine at = absurd mine
-        by_origin (Link v i) there mine at = absurd mine
-        by_origin (TermGate v i) there mine at = absurd mine
-        by_origin (Differ y leaf part) there mine at = absurd mine
+        by_origin _ there mine at = absurd mine
 
 -- the numbers are those of the proof's variables
 module _ (f : Dqbf) (entries : List Entry) (e : CircuitPart) where

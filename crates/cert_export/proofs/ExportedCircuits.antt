@@ -11,7 +11,7 @@ use Rattle.dq_lits.specs.Formula.{Dqbf, Existential, IsWellFormed}
 use Rattle.hint_log.specs.Conditions.{is_circuit_name, HasSides, MayFollow}
 use Rattle.hint_log.specs.Entries.{name_of, Entry, Named, Given, Learned, Answer, Round, Begun}
 use Rattle.hint_log.specs.declared.names.Name.{Name}
-use Rattle.hint_log.specs.declared.names.Name.TheVariants.{Selector, Pair, Input, And, Bad, Copy as CopyOf, Term}
+use Rattle.hint_log.specs.declared.names.Name.TheVariants.{Input, And, Bad}
 use Rattle.hint_log.specs.declared.origins.Leaf.{Leaf}
 use Rattle.hint_log.specs.declared.origins.Leaf.TheVariants.{Constant, Literal as LeafLiteral}
 use Rattle.circuit_plain.specs.Ground.{IsGrounded, constant, input, gate}
@@ -155,8 +155,6 @@ module _ (f : Dqbf) (all : List Entry) (e : CircuitPart) (lawful : Each MayFollo
             (m : ℕ) → r (variable_of k) ≡ Some m → IsGrounded net m) →
             (o : Name) → HasSides es o → is_circuit_name (Some o) ≡ true → name_of all (variable_of l) ≡ Some o →
             IsGrounded net n
-        by_name later (Selector g) s c at = cc
-        by_name later (Pair k y) s c at = cc
         by_name later (Input x) s c at = by_case (number_cases f e (variable_of l)
             (name_of all (variable_of l)) n number) where
               by_case : IsNumbered f e (variable_of l) (name_of all (variable_of l)) n → IsGrounded net n
@@ -185,9 +183,7 @@ module _ (f : Dqbf) (all : List Entry) (e : CircuitPart) (lawful : Each MayFollo
             (gate (file_gate (variable_of l)) (contains_map file_gate e.gates (variable_of l) inside)
             (subst (IsGrounded net) (sym q.left_is) left_ground)
             (subst (IsGrounded net) (sym q.right_is) right_ground))
-        by_name later (Bad g j) s c at = cc
-        by_name later (CopyOf side u) s c at = cc
-        by_name later (Term p q) s c at = cc
+        by_name later _ s c at = cc
 
         by_bit : ((k : Literal) → is_circuit_name (name_of es (variable_of k)) ≡ true → IsInFile all e.gates k →
             (m : ℕ) → r (variable_of k) ≡ Some m → IsGrounded net m) →

@@ -12,15 +12,13 @@ use Rattle.std.proofs.lemmas.Option.{get_or_from_slice_get}
 use Rattle.list_laws.proofs.Elements.{kept_there, last_there, place_within}
 use Rattle.dq_lits.specs.Literal.{Literal, positive, negative, variable_of, is_negative, on_variable}
 use Rattle.dq_lits.specs.Formula.{Existential, Dqbf, existential_of, IsWellFormed}
-use Rattle.dq_lits.specs.Expansion.{agree_on, pair_number, pair_literal, universal_literal_true, instance_clause, instance_at}
+use Rattle.dq_lits.specs.Expansion.{agree_on, pair_number, pair_literal, universal_literal_true, instance_clause, instance_at, row_assignment}
 use Rattle.list_laws.proofs.Numbers.{pair_row, pair_variable}
-use Rattle.hint_log.specs.Entries.{has_id, is_round, row_of, row_at, count, rounds_of, numbered, name_of}
-use Rattle.hint_log.specs.Entries.{Entry}
-use Rattle.hint_log.specs.Entries.{Named, Given, Learned, Answer, Round, Begun}
+use Rattle.hint_log.specs.Entries.{has_id, is_round, row_of, row_at, count, rounds_of, numbered, name_of, Entry, Given, Round}
 use Rattle.hint_log.specs.declared.names.Name.{Name}
 use Rattle.hint_log.specs.declared.names.Name.TheVariants.{Selector, Pair}
 use Rattle.hint_log.specs.declared.origins.Origin.{Origin}
-use Rattle.hint_log.specs.declared.origins.Origin.TheVariants.{Instance, Gate, Fault, Copy, Link, TermGate, Differ}
+use Rattle.hint_log.specs.declared.origins.Origin.TheVariants.{Instance}
 use Rattle.hint_log.specs.Growth.{Each}
 use Rattle.hint_log.specs.Naming.{numbered_from_one, named_literal, name_literal, rows_of, arbiter, on_arbiter}
 use Rattle.hint_log.specs.Origins.{IsInstanceRest, IsOriginsClause}
@@ -36,27 +34,18 @@ use Rattle.log_laws.proofs.Found.{named_variable, position_append, position_smal
 use Rattle.log_laws.proofs.Refuted.{row_contained, rows_more}
 use Rattle.cert_export.proofs.PairNames.{in_range, alike, same_places, same_numbers, from_one}
 use Rattle.dq_lits.specs.Henkin.{restriction, same_bits}
-use Rattle.dq_lits.specs.Expansion.{row_assignment}
 use Rattle.dq_lits.proofs.Choices.{same_bits-refl}
 use Rattle.dq_lits.proofs.FormulaVariables.{find_sound}
 
 -- the row of a round is at its place
 pub rounds_are : (es : List Entry) → length (rows_of es) ≡ rounds_of es
 rounds_are [] = refl
-rounds_are (Named v n ∷ es) = rounds_are es
-rounds_are (Given origin c ∷ es) = rounds_are es
-rounds_are (Learned c hints ∷ es) = rounds_are es
-rounds_are (Answer c hints ∷ es) = rounds_are es
 rounds_are (Round row values j ∷ es) = length-append (rows_of es) (row ∷ []) ∙ ap (λ n. n + 1) (rounds_are es)
-rounds_are (Begun live ∷ es) = rounds_are es
+rounds_are (_ ∷ es) = rounds_are es
 
 pub row_place : (es : List Entry) (k : ℕ) (row : List Bool) → row_at es k ≡ Some row →
     (1 ≤ k) × (slice_get (rows_of es) (k - 1) ≡ Some row)
 row_place [] k row h = cc
-row_place (Named v n ∷ es) k row h = row_place es k row h
-row_place (Given origin c ∷ es) k row h = row_place es k row h
-row_place (Learned c hints ∷ es) k row h = row_place es k row h
-row_place (Answer c hints ∷ es) k row h = row_place es k row h
 row_place (Round r values j ∷ es) k row h = by_bit (row_place es k row) (k == count is_round es + 1) refl h where
   by_bit : (row_at es k ≡ Some row → (1 ≤ k) × (slice_get (rows_of es) (k - 1) ≡ Some row)) → (b : Bool) →
       (k == count is_round es + 1) ≡ b → option_and_then row_of
@@ -68,7 +57,7 @@ row_place (Round r values j ∷ es) k row h = by_bit (row_place es k row) (k == 
       let place : k - 1 ≡ length (rows_of es) = omega (arith, number, rounds_are es) in
       (omega (arith, number), ap (slice_get (rows_of es ++ r ∷ [])) place ∙ last_there (rows_of es) r ∙ ap Some same)
   by_bit before false e h = let b = before h in (b.0, kept_there (rows_of es) (r ∷ []) (k - 1) row b.1)
-row_place (Begun live ∷ es) k row h = row_place es k row h
+row_place (_ ∷ es) k row h = row_place es k row h
 
 pub same_on : (p : ℕ) (r l : Literal) → is_negative r ≡ is_negative l → on_variable p r ≡ on_variable p l
 same_on p (positive v) (positive w) e = refl
@@ -323,12 +312,7 @@ instances_alone : (P : Origin → Type 0) (f : Dqbf) (ks live : List ℕ) (entri
     (c : List Literal) → IsKeptClause f ks live entries origin c →
     ((k j : ℕ) → IsKeptClause f ks live entries (Instance k j) c → P (Instance k j)) → P origin
 instances_alone P f ks live entries (Instance k j) c mine own = own k j mine
-instances_alone P f ks live entries (Gate v i) c mine own = absurd mine
-instances_alone P f ks live entries (Fault j i leaf) c mine own = absurd mine
-instances_alone P f ks live entries (Copy side j) c mine own = absurd mine
-instances_alone P f ks live entries (Link v i) c mine own = absurd mine
-instances_alone P f ks live entries (TermGate v i) c mine own = absurd mine
-instances_alone P f ks live entries (Differ y leaf part) c mine own = absurd mine
+instances_alone P f ks live entries _ c mine own = absurd mine
 
 pub instances_are_expansion : InstancesAreExpansion
 instances_are_expansion f ks live entries well lawful id origin c at usable =

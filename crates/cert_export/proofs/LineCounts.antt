@@ -8,7 +8,7 @@ use Rattle.std.proofs.lemmas.List.Kept.{AllPairs-from_increasing}
 use Rattle.std.specs.List.Sorted.{IsStrictlyIncreasing}
 use Rattle.dq_lits.specs.Derivation.{ProofStep}
 use Rattle.dq_lits.specs.Formula.{Dqbf}
-use Rattle.hint_log.specs.Entries.{Entry, Named, Given, Learned, Answer, Round, Begun, has_id, numbered, count}
+use Rattle.hint_log.specs.Entries.{Entry, Named, Given, Round, Begun, has_id, numbered, count}
 use Rattle.cert_export.specs.Exportable.{AreExportedItems}
 use Rattle.rup_core.specs.Items.{ProofItem, derived}
 use Rattle.cert_export.specs.Exported.{exported_number}
@@ -77,15 +77,10 @@ few_lemmas (Named v n ∷ es) xs rising all = few_lemmas es xs rising all
 few_lemmas (Round row values j ∷ es) xs rising all = few_lemmas es xs rising all
 few_lemmas (Begun live ∷ es) xs rising all = few_lemmas es xs rising all
 few_lemmas (Given o c ∷ es) xs rising all = search (arith, (few_lemmas es xs rising))
-few_lemmas (Learned c hints ∷ es) xs rising all =
+few_lemmas (e ∷ es) xs rising all =
     let n = count has_id es + 1 in
     let rest = few_lemmas es (filter (others n) xs) (rising_filter (others n) xs rising)
-    (of_earlier (Learned c hints) es n xs all) in
-    omega (arith, rest, one_less n xs rising)
-few_lemmas (Answer c hints ∷ es) xs rising all =
-    let n = count has_id es + 1 in
-    let rest = few_lemmas es (filter (others n) xs) (rising_filter (others n) xs rising)
-    (of_earlier (Answer c hints) es n xs all) in
+    (of_earlier e es n xs all) in
     omega (arith, rest, one_less n xs rising)
 
 all_derived : (es : List Entry) (xs : List ℕ) → All (IsLemmaOf es) (derived_ids es xs)

@@ -20,10 +20,6 @@ none_marked (suc n) start = ap (λ xs. false ∷ xs) (none_marked n (start + 1))
 any_push : (p : ℕ → Bool) (xs : List ℕ) (x : ℕ) → list_any p (xs ++ x ∷ []) ≡ (list_any p xs || p x)
 any_push p xs x = list_any-append p xs (x ∷ []) ∙ ap (λ b. list_any p xs || b) (last (p x))
 
-same_map : (h g : ℕ → Bool) → ((x : ℕ) → g x ≡ h x) → (xs : List ℕ) → map h xs ≡ map g xs
-same_map h g same [] = refl
-same_map h g same (x ∷ xs) = ap (λ b. b ∷ map h xs) (sym (same x)) ∙ ap (λ bs. g x ∷ bs) (same_map h g same xs)
-
 -- numbers behind k keep their marks
 same_behind : (h g : ℕ → Bool) (k : ℕ) → ((x : ℕ) → x ≢ k → g x ≡ h x) → (n start : ℕ) → k < start →
     map h (range_with_len start n) ≡ map g (range_with_len start n)

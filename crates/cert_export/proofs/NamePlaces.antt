@@ -6,10 +6,10 @@ use Rattle.std.proofs.lemmas.List.Elements.{All-head, All-tail}
 use Rattle.list_laws.proofs.Elements.{old_or_last, place_within}
 use Rattle.dq_lits.specs.Literal.{Literal, variable_of}
 use Rattle.hint_log.specs.Conditions.{is_circuit_name, HasSides, MayFollow}
-use Rattle.hint_log.specs.Entries.{Entry, Named, Given, Learned, Answer, Round, Begun, count, name_of, names_of}
+use Rattle.hint_log.specs.Entries.{Entry, Named, count, name_of, names_of}
 use Rattle.hint_log.specs.Growth.{Each}
 use Rattle.hint_log.specs.declared.names.Name.{Name}
-use Rattle.hint_log.specs.declared.names.Name.TheVariants.{Selector, Pair, Input, And, Bad, Copy as CopyOf, Term}
+use Rattle.hint_log.specs.declared.names.Name.TheVariants.{And}
 use Rattle.log_laws.proofs.ReachedClauses.{name_stays}
 use Rattle.log_laws.proofs.Solved.{sides}
 use Rattle.cert_export.specs.ExportedCircuit.{is_gate_name}
@@ -18,12 +18,7 @@ use Rattle.cert_export.specs.Needed.{is_and, IsGatePlace}
 -- a name that is a gate's
 pub gate_sides : (n : Name) → is_and n ≡ true → (a : Literal) × (b : Literal) × (n ≡ And a b)
 gate_sides (And a b) h = (a, b, refl)
-gate_sides (Selector g) h = cc
-gate_sides (Pair k y) h = cc
-gate_sides (Input x) h = cc
-gate_sides (Bad g j) h = cc
-gate_sides (CopyOf side x) h = cc
-gate_sides (Term p q) h = cc
+gate_sides _ h = cc
 
 pub same_pair : (v w : ℕ) (n m : Name) → ◌≡◌ {A = Option (ℕ × Name)} (Some (v, n)) (Some (w, m)) →
     (v ≡ w) × (n ≡ m)
@@ -35,11 +30,7 @@ pub named_at : (es : List Entry) (p v : ℕ) (n : Name) → Each MayFollow es �
 named_at [] p v n lawful at = cc
 named_at (Named w m ∷ es) p v n lawful at =
     search (arith, old_or_last, name_stays, (named_at es p v n lawful.1), cond-true, eq-eqb)
-named_at (Given origin c ∷ es) p v n lawful at = named_at es p v n lawful.1 at
-named_at (Learned c hints ∷ es) p v n lawful at = named_at es p v n lawful.1 at
-named_at (Answer c hints ∷ es) p v n lawful at = named_at es p v n lawful.1 at
-named_at (Round row values j ∷ es) p v n lawful at = named_at es p v n lawful.1 at
-named_at (Begun live ∷ es) p v n lawful at = named_at es p v n lawful.1 at
+named_at (_ ∷ es) p v n lawful at = named_at es p v n lawful.1 at
 
 -- a variable that is named now had no place
 none_before : (w : ℕ) (m : Name) (es : List Entry) (p v : ℕ) (n : Name) → Each MayFollow (Named w m ∷ es) →
@@ -62,11 +53,7 @@ one_place (Named w k ∷ es) p q v n m lawful at other = elim (old_or_last (name
     | inr last ↦ here.0 ∙ sym last.0
   ]
 ]
-one_place (Given origin c ∷ es) p q v n m lawful at other = one_place es p q v n m lawful.1 at other
-one_place (Learned c hints ∷ es) p q v n m lawful at other = one_place es p q v n m lawful.1 at other
-one_place (Answer c hints ∷ es) p q v n m lawful at other = one_place es p q v n m lawful.1 at other
-one_place (Round row values j ∷ es) p q v n m lawful at other = one_place es p q v n m lawful.1 at other
-one_place (Begun live ∷ es) p q v n m lawful at other = one_place es p q v n m lawful.1 at other
+one_place (_ ∷ es) p q v n m lawful at other = one_place es p q v n m lawful.1 at other
 
 -- the literal is a side of the gate
 abbrev pub IsSide : Literal → Literal → Literal → Type 0
@@ -97,16 +84,7 @@ side_before (Named w k ∷ es) p q v a b l m lawful at side other =
             (subst (HasSides es) (ap (λ x. x.1) here.1) lawful.0.sides) side (ap (λ x. x.0) last.1))
       ]
     ]
-side_before (Given origin c ∷ es) p q v a b l m lawful at side other =
-    side_before es p q v a b l m lawful.1 at side other
-side_before (Learned c hints ∷ es) p q v a b l m lawful at side other =
-    side_before es p q v a b l m lawful.1 at side other
-side_before (Answer c hints ∷ es) p q v a b l m lawful at side other =
-    side_before es p q v a b l m lawful.1 at side other
-side_before (Round row values j ∷ es) p q v a b l m lawful at side other =
-    side_before es p q v a b l m lawful.1 at side other
-side_before (Begun live ∷ es) p q v a b l m lawful at side other =
-    side_before es p q v a b l m lawful.1 at side other
+side_before (_ ∷ es) p q v a b l m lawful at side other = side_before es p q v a b l m lawful.1 at side other
 
 -- descending places of gates are no more than the gates
 gate_name : (w : ℕ) (m : Name) → is_and m ≡ true → is_gate_name (Named w m) ≡ true
@@ -153,8 +131,4 @@ few_places (Named w m ∷ es) (p ∷ ps) descending gates =
       all_below below zero d less = below
       all_below below (suc k) d less =
           omega (arith, descending 0 (suc k) d (omega arith) less, below)
-few_places (Given origin c ∷ es) (p ∷ ps) descending gates = few_places es (p ∷ ps) descending gates
-few_places (Learned c hints ∷ es) (p ∷ ps) descending gates = few_places es (p ∷ ps) descending gates
-few_places (Answer c hints ∷ es) (p ∷ ps) descending gates = few_places es (p ∷ ps) descending gates
-few_places (Round row values j ∷ es) (p ∷ ps) descending gates = few_places es (p ∷ ps) descending gates
-few_places (Begun live ∷ es) (p ∷ ps) descending gates = few_places es (p ∷ ps) descending gates
+few_places (_ ∷ es) (p ∷ ps) descending gates = few_places es (p ∷ ps) descending gates

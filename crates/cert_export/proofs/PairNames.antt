@@ -7,11 +7,10 @@ use Rattle.list_laws.proofs.Folds.{first_holds}
 use Rattle.list_laws.proofs.Members.{contains_map}
 use Rattle.list_laws.proofs.Numbers.{pair_row}
 use Rattle.dq_lits.specs.Formula.{Existential, Dqbf, declared, existential_of, IsWellFormed}
-use Rattle.dq_lits.specs.Expansion.{agree_on, pair_number}
-use Rattle.hint_log.specs.Entries.{name_of}
-use Rattle.hint_log.specs.Entries.{Entry}
+use Rattle.dq_lits.specs.Expansion.{agree_on, pair_number, row_assignment}
+use Rattle.hint_log.specs.Entries.{name_of, Entry}
 use Rattle.hint_log.specs.declared.names.Name.{Name}
-use Rattle.hint_log.specs.declared.names.Name.TheVariants.{Selector, Pair, Input, And, Bad, Copy as CopyOf, Term}
+use Rattle.hint_log.specs.declared.names.Name.TheVariants.{Pair}
 use Rattle.hint_log.specs.Growth.{Each}
 use Rattle.hint_log.specs.Naming.{numbered_from_one, rows_of}
 use Rattle.cert_export.specs.Renaming.{IsInjective}
@@ -20,7 +19,6 @@ use Rattle.hint_log.specs.Conditions.{MayFollow}
 use Rattle.hint_log.proofs.Lawful.{names_are_unique_lem}
 use Rattle.log_laws.proofs.Found.{variable}
 use Rattle.dq_lits.specs.Henkin.{restriction, same_bits}
-use Rattle.dq_lits.specs.Expansion.{row_assignment}
 use Rattle.dq_lits.proofs.Choices.{same_bits-sound}
 use Rattle.dq_lits.proofs.FormulaVariables.{find_sound}
 
@@ -39,13 +37,8 @@ pub record IsPair (f : Dqbf) (rows kept : List (List Bool)) (o : Option Name) (x
 pub pair_parts : (f : Dqbf) (rows kept : List (List Bool)) (o : Option Name) (x : ℕ) → pair_of f rows kept o ≡ Some x →
     IsPair f rows kept o x
 pair_parts f rows kept None x h = cc
-pair_parts f rows kept (Some (Selector g)) x h = cc
 pair_parts f rows kept (Some (Pair k y)) x h = search (arith, and_parts, eqb-true)
-pair_parts f rows kept (Some (Input g)) x h = cc
-pair_parts f rows kept (Some (And a b)) x h = cc
-pair_parts f rows kept (Some (Bad g j)) x h = cc
-pair_parts f rows kept (Some (CopyOf side v)) x h = cc
-pair_parts f rows kept (Some (Term p q)) x h = cc
+pair_parts f rows kept (Some _) x h = cc
 
 pub in_range : (f : Dqbf) → IsWellFormed f → (y : Existential) → Contains f.existentials y →
     (1 ≤ y.variable) × (y.variable ≤ f.variables)

@@ -8,17 +8,14 @@ use Rattle.std.proofs.lemmas.List.Kept.{AllPairs-from_increasing}
 use Rattle.list_laws.proofs.Members.{contains_later}
 use Rattle.dq_lits.specs.Literal.{Literal}
 use Rattle.dq_lits.specs.Derivation.{is_empty}
-use Rattle.hint_log.specs.Conditions.{IsId}
-use Rattle.hint_log.specs.Entries.{has_id, count, last_id, numbered, hints_of, hints_at}
+use Rattle.hint_log.specs.Conditions.{IsId, MayFollow}
+use Rattle.hint_log.specs.Entries.{has_id, count, last_id, numbered, hints_of, hints_at, Entry, Given, Learned, Answer}
 use Rattle.hint_log.specs.Reached.{Reaches, itself, by_hint, AreReached}
-use Rattle.hint_log.specs.Entries.{Entry}
-use Rattle.hint_log.specs.Entries.{Named, Given, Learned, Answer, Round, Begun}
 use Rattle.hint_log.specs.declared.origins.Origin.{Origin}
 use Rattle.cert_export.specs.Lines.{is_derived, derived_ids, line_clause}
 use Rattle.cert_export.specs.LineOrder.{IsLine, AreLineNumbers, IsBaseId, IsHintable, IsNextLine, AreLines, AreFinished}
 use Rattle.hint_log.specs.Growth.{Each}
 use Rattle.cert_export.specs.Renaming.{Renaming}
-use Rattle.hint_log.specs.Conditions.{MayFollow}
 use Rattle.log_laws.proofs.ReachedClauses.{numbered_kept}
 use Rattle.log_laws.proofs.Found.{each_at}
 
@@ -65,12 +62,9 @@ none_in x (k, below, is) = omega arith
 
 entry_hints : (earlier : List Entry) (e : Entry) (h : ℕ) → MayFollow earlier e → Contains (hints_of e) h →
     IsId earlier h
-entry_hints earlier (Named v n) h lawful inside = absurd (none_in h inside)
-entry_hints earlier (Given origin c) h lawful inside = absurd (none_in h inside)
 entry_hints earlier (Learned c hints) h lawful inside = lawful.1 h inside
 entry_hints earlier (Answer c hints) h lawful inside = lawful.1 h inside
-entry_hints earlier (Round row values j) h lawful inside = absurd (none_in h inside)
-entry_hints earlier (Begun live) h lawful inside = absurd (none_in h inside)
+entry_hints earlier _ h lawful inside = absurd (none_in h inside)
 
 -- hints are earlier ids
 pub hints_below : (es : List Entry) → Each MayFollow es → (at h : ℕ) (hints : List ℕ) → hints_at es at ≡ Some hints →
@@ -207,7 +201,6 @@ module _ (usable : Origin → List Literal → Type 0) (entries : List Entry) (l
             AreLines usable entries number base done (cond (is_derived o) (x ∷ derived_ids entries rest)
             (derived_ids entries rest))
         by_entry later None at = later done (known_base (λ e is. let both : None ≡ Some e = sym at ∙ is in cc)) past
-        by_entry later (Some (Named v n)) at = absurd (false≢true (entry_at entries x (Named v n) at).has)
         by_entry later (Some (Given origin c)) at = later done
             (known_base (λ e is. (origin, c, at, right x origin c here at))) past
         by_entry later (Some (Learned c hints)) at =
@@ -222,9 +215,7 @@ module _ (usable : Origin → List Literal → Type 0) (entries : List Entry) (l
                   (ap (option_and_then (λ e. Some (hints_of e))) at) line known finished,
               later (x ∷ done) known_line (done_line line),
             )
-        by_entry later (Some (Round row values j)) at = absurd
-            (false≢true (entry_at entries x (Round row values j) at).has)
-        by_entry later (Some (Begun live)) at = absurd (false≢true (entry_at entries x (Begun live) at).has)
+        by_entry later (Some e) at = absurd (false≢true (entry_at entries x e at).has)
 
   pub are_lines : (ids : List ℕ) → AreReached entries id ids →
       AreLines usable entries number base [] (derived_ids entries ids)

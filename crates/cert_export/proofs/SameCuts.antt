@@ -91,9 +91,7 @@ module _ (r s : Renaming) (to : ℕ → ℕ) (made : (v : ℕ) → s v ≡ optio
           by_status (unit k) (unit k') alike later =
               ap (λ o. cut_hints (by r) (cons_option o (renamed_clause r trues)) hs) (sym alike.1) ∙ later alike.0
               ∙ ap (λ o. cut_hints (by s) (cons_option o (renamed_clause s trues)) hs) alike.2
-          by_status falsified stuck alike later = absurd alike
-          by_status falsified (unit k) alike later = absurd alike
-          by_status stuck falsified alike later = absurd alike
           by_status stuck (unit k) alike later = absurd alike
-          by_status (unit k) falsified alike later = absurd alike
           by_status (unit k) stuck alike later = absurd alike
+          by_status falsified _ alike later = absurd alike
+          by_status _ falsified alike later = absurd alike

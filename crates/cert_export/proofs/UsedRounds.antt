@@ -8,7 +8,7 @@ use Rattle.dq_lits.specs.Formula.{Dqbf}
 use Rattle.dq_lits.specs.Literal.{Literal}
 use Rattle.hint_log.specs.Entries.{Entry, Given, has_id, numbered, origin_of, origin_at, rounds_of}
 use Rattle.hint_log.specs.declared.origins.Origin.{Origin}
-use Rattle.hint_log.specs.declared.origins.Origin.TheVariants.{Instance, Gate, Fault, Copy, Link, TermGate, Differ}
+use Rattle.hint_log.specs.declared.origins.Origin.TheVariants.{Instance}
 use Rattle.cert_export.specs.Expansion.{is_instance_of, has_instance, used_rounds, IsInstanceClause, IsKeptClause}
 use Rattle.cert_export.proofs.Instances.{any_at, round_below}
 use Rattle.std.proofs.lemmas.List.FromFn.{length-range_with_len, get_or-range_with_len}
@@ -29,12 +29,7 @@ kept_clause f live entries ids id (Instance k j) c inside at mine =
           (contains-range_from_one (rounds_of entries) k range.0 range.1),
       mine,
     )
-kept_clause f live entries ids id (Gate v i) c inside at mine = absurd mine
-kept_clause f live entries ids id (Fault j i leaf) c inside at mine = absurd mine
-kept_clause f live entries ids id (Copy side j) c inside at mine = absurd mine
-kept_clause f live entries ids id (Link v i) c inside at mine = absurd mine
-kept_clause f live entries ids id (TermGate v i) c inside at mine = absurd mine
-kept_clause f live entries ids id (Differ y leaf part) c inside at mine = absurd mine
+kept_clause f live entries ids id _ c inside at mine = absurd mine
 
 -- they ascend
 pub used_ascend : (entries : List Entry) (ids : List ℕ) → IsStrictlyIncreasing (used_rounds entries ids)

@@ -10,7 +10,7 @@ use Rattle.list_laws.proofs.Elements.{place_within, index_of}
 use Rattle.dq_lits.specs.Literal.{Literal, opposite}
 use Rattle.dq_lits.specs.Derivation.{is_tautology, ProofStep}
 use Rattle.hint_log.specs.Conditions.{IsId}
-use Rattle.hint_log.specs.Entries.{Entry, Named, Given, Learned, Answer, Round, Begun, has_id, numbered, clause_of, hints_of, origin_of, clause_at, hints_at, origin_at}
+use Rattle.hint_log.specs.Entries.{Entry, Given, Learned, Answer, has_id, numbered, clause_of, hints_of, origin_of, clause_at, hints_at, origin_at}
 use Rattle.hint_log.specs.declared.origins.Origin.{Origin}
 use Rattle.cert_export.specs.Lines.{clause_or_empty, hints_or_none, is_derived, derived_ids, line_number, number_by, new_number, renamed_clauses, line_clause, line_hints, line_step, line_steps}
 use Rattle.cert_export.specs.Renaming.{Renaming, renamed_clause, cut_hints}
@@ -37,24 +37,19 @@ pub derived_entry : (o : Option Entry) (clause : List Literal) (hints : List ℕ
     option_and_then clause_of o ≡ Some clause → option_and_then (λ e. Some (hints_of e)) o ≡ Some hints →
     IsDerivedEntry o clause hints
 derived_entry None clause hints h k l = cc
-derived_entry (Some (Named v n)) clause hints h k l = cc
-derived_entry (Some (Given o c)) clause hints h k l = cc
 derived_entry (Some (Learned c hs)) clause hints h k l = record
     { derived = refl; clause_is = (let s : c ≡ clause = cc in s); hints_are = (let s : hs ≡ hints = cc in s) }
 derived_entry (Some (Answer c hs)) clause hints h k l = record
     { derived = refl; clause_is = (let s : c ≡ clause = cc in s); hints_are = (let s : hs ≡ hints = cc in s) }
-derived_entry (Some (Round row values j)) clause hints h k l = cc
-derived_entry (Some (Begun live)) clause hints h k l = cc
+derived_entry (Some _) clause hints h k l = cc
 
 pub clause_is : (o : Option Entry) (clause : List Literal) → option_and_then clause_of o ≡ Some clause →
     clause_or_empty o ≡ clause
 clause_is None clause k = cc
-clause_is (Some (Named v n)) clause k = cc
 clause_is (Some (Given o c)) clause k = let s : c ≡ clause = cc in s
 clause_is (Some (Learned c hs)) clause k = let s : c ≡ clause = cc in s
 clause_is (Some (Answer c hs)) clause k = let s : c ≡ clause = cc in s
-clause_is (Some (Round row values j)) clause k = cc
-clause_is (Some (Begun live)) clause k = cc
+clause_is (Some _) clause k = cc
 
 map_more : {X : Type 0} (g : ℕ → X) (ids : List ℕ) (i id : ℕ) → i < length ids → id ≡ get_or ids i id →
     map g (take (i + 1) ids) ≡ map g (take i ids) ++ g id ∷ []
@@ -224,9 +219,6 @@ module _ (r : Renaming) (base_id : Origin → ℕ) (knows : Origin → Type 0) (
     where
       number_is : (o : Option Entry) (k : ℕ) → is_derived o ≡ true → number_by base_id k o ≡ k
       number_is None k h = cc
-      number_is (Some (Named v m)) k h = cc
-      number_is (Some (Given o d)) k h = cc
       number_is (Some (Learned d hs)) k h = refl
       number_is (Some (Answer d hs)) k h = refl
-      number_is (Some (Round row values j)) k h = cc
-      number_is (Some (Begun live)) k h = cc
+      number_is (Some _) k h = cc

@@ -1,6 +1,6 @@
--- The refutation that an answer stands for: the instances under the rows that it reaches are the base,
--- and the derived clauses that it rests on are lines, with the arbiters' variables as pairs and all
--- other literals left out.
+-- The refutation that an answer stands for: the instances under the rows that it reaches are the
+-- base, and the derived clauses that it rests on are lines, with the arbiters' variables as pairs
+-- and all other literals left out.
 use Rattle.std.specs.Prelude.{ℕ, ◌+◌, ◌-◌, ◌*◌, ◌==◌, Bool, false, ◌&&◌, List, [], map, length, get_or, Option, None, Some, if◌then◌else◌}
 use Rattle.std.specs.List.{Contains, filter, list_any, position_or_len, range_with_len}
 use Rattle.dq_lits.specs.Literal.{Literal}
@@ -41,8 +41,8 @@ abbrev pub used_rows : List Entry → List ℕ → List (List Bool)
 used_rows entries ids = rows_among entries (used_rounds entries ids)
 
 -- The pair that is named by an existential and the first of all rows that agrees with it has the
--- number of the first kept row that agrees; there is none where no kept row does, and any other name
--- is no pair's.
+-- number of the first kept row that agrees; there is none where no kept row does, and any other
+-- name is no pair's.
 abbrev pub kept_pair : Dqbf → List (List Bool) → List (List Bool) → ℕ → Option (List Bool)
     → Option Existential → Option ℕ
 kept_pair f rows kept k (Some row) (Some y) =

@@ -20,8 +20,8 @@ use Rattle.cert_export.specs.Expansion.{IsInstanceClause, used_rows}
 use Rattle.cert_export.specs.Exported.{IsPairRenaming, exported_steps}
 use Rattle.cert_export.specs.Renaming.{Renaming}
 
--- an instance of a clause with one of these ascending numbers, under the row of one of these rounds,
--- which ascend too
+-- an instance of a clause with one of these ascending numbers, under the row of one of these
+-- rounds, which ascend too
 abbrev pub IsKnownInstance : List ℕ → List ℕ → Origin → Type 0
 IsKnownInstance rounds live (Instance k j) =
     IsStrictlyIncreasing rounds × Contains rounds k × IsStrictlyIncreasing live × Contains live j

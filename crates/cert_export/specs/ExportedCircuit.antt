@@ -113,8 +113,8 @@ pub record IsDecidedTrue (f : Dqbf) (entries : List Entry) (id : ℕ) : Type 0 w
   pub last : id ≡ last_id entries
   pub decides : DecidesTrue f earlier clause hints
 
--- and what the export reads of the log is right by the formula: inputs stand for its universals, and
--- the given clauses that the answer rests on are their origins'; every lemma is derived
+-- and what the export reads of the log is right by the formula: inputs stand for its universals,
+-- and the given clauses that the answer rests on are their origins'; every lemma is derived
 pub record CanExportTrue (f : Dqbf) (entries : List Entry) (id : ℕ) : Type 0 where
   pub decided : IsDecidedTrue f entries id
   pub inputs : HasUniversalInputs f entries
@@ -200,8 +200,8 @@ pub record HasSmallerSides (g : Gate) : Type 0 where
   pub left : g.left < 2 * g.variable
   pub right : g.right < 2 * g.variable
 
--- inputs and then gates are numbered from 1 on, each in its order, each gate reads what comes before
--- it, and each symbol is its variable's number
+-- inputs and then gates are numbered from 1 on, each in its order, each gate reads what comes
+-- before it, and each symbol is its variable's number
 pub record IsNumberedFile (f : Dqbf) (file : AagFile) : Type 0 where
   pub inputs : file.circuit.inputs ≡ range_with_len 1 (length f.universals)
   pub gates : gate_variables file.circuit
