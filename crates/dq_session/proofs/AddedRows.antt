@@ -4,14 +4,14 @@ use Rattle.std.proofs.lemmas.List.{length-append, length-replicate, get_or-repli
 use Rattle.dq_lits.specs.Literal.{Literal}
 use Rattle.dq_lits.specs.Formula.{Dqbf}
 use Rattle.hint_log.specs.Conditions.{AreLogged}
-use Rattle.hint_log.specs.Entries.{Entry, Named, Given, Learned, Answer, Round, Begun, ProofLog}
+use Rattle.hint_log.specs.Entries.{Entry, Named, Given, ProofLog}
 use Rattle.hint_log.specs.Growth.{Each, EachOf, Grew}
 use Rattle.hint_log.specs.Live.{with_matrix}
 use Rattle.hint_log.specs.ProductiveLog.{IsRightlyNamed}
 use Rattle.hint_log.specs.ProductiveSession.{frame_of}
 use Rattle.hint_log.specs.declared.names.Name.{Name}
-use Rattle.hint_log.specs.declared.names.Name.TheVariants.{Selector, Pair, Input, And, Bad, Copy as CopyOf, Term}
-use Rattle.hint_log.specs.declared.origins.Origin.TheVariants.{Instance, Gate, Fault, Copy, Link, TermGate, Differ}
+use Rattle.hint_log.specs.declared.names.Name.TheVariants.{Selector, Input}
+use Rattle.hint_log.specs.declared.origins.Origin.TheVariants.{Instance, Gate, Fault}
 use Rattle.hint_log.proofs.NamedEntries.{numbered_low}
 use Rattle.log_laws.specs.Engines.{circuits, instances, copies, same_engine, origin_engine, name_engine, is_engine, part, IsInGroup}
 use Rattle.log_laws.specs.Sessions.{IsAddedLive}
@@ -60,10 +60,7 @@ module _ (f : Dqbf) (group : ℕ) (es : List Entry) (logged : AreLogged es) wher
       entries : (t : Bool) → KeepsEntries mine (cond t (Given o c ∷ mine) mine)
       entries true = more_keeps mine (Given o c)
       entries false = λ e has. has
-  entry_keeps (Learned c hs) h = absurd h
-  entry_keeps (Answer c hs) h = absurd h
-  entry_keeps (Round r values j) h = absurd h
-  entry_keeps (Begun live) h = absurd h
+  entry_keeps _ h = absurd h
 
 row_keeps : (f : Dqbf) (group : ℕ) (more old : List Entry) → EachOf (IsRowEntry f group) more old →
     AreLogged (more ++ old) → KeepsNames (part instances old) (part instances (more ++ old))
@@ -80,13 +77,8 @@ no_copy e = cc
 
 rightly : (f : Dqbf) (matrix : List (List Literal)) (n : Name) → IsRightlyNamed f n →
     IsRightlyNamed (with_matrix f matrix) n
-rightly f matrix (Selector g) h = tt
-rightly f matrix (Pair k y) h = tt
 rightly f matrix (Input x) h = h
-rightly f matrix (And l r) h = tt
-rightly f matrix (Bad g j) h = tt
-rightly f matrix (CopyOf side v) h = tt
-rightly f matrix (Term l r) h = tt
+rightly f matrix _ h = tt
 
 -- what a row adds is right in the session
 row_added : (b : DatabaseState) (first earlier : List Entry) (e : Entry) → IsRowEntry b.file b.table.group earlier e →
@@ -101,14 +93,8 @@ row_added b first earlier (Given (Instance k j) c) h = record {
 }
 row_added b first earlier (Given (Gate v i) c) h = absurd (no_circuit h.own)
 row_added b first earlier (Given (Fault j i leaf) c) h = absurd (no_circuit h.own)
-row_added b first earlier (Given (Copy side j) c) h = absurd (no_copy h.own)
-row_added b first earlier (Given (Link v i) c) h = absurd (no_copy h.own)
-row_added b first earlier (Given (TermGate v i) c) h = absurd (no_copy h.own)
-row_added b first earlier (Given (Differ y leaf i) c) h = absurd (no_copy h.own)
-row_added b first earlier (Learned c hs) h = absurd h
-row_added b first earlier (Answer c hs) h = absurd h
-row_added b first earlier (Round r values j) h = absurd h
-row_added b first earlier (Begun live) h = absurd h
+row_added b first earlier (Given _ c) h = absurd (no_copy h.own)
+row_added b first earlier _ h = absurd h
 
 pub row_grew : (b : DatabaseState) (first : List Entry) (old new : ProofLog) →
     Grew (IsRowEntry b.file b.table.group) old new
@@ -127,7 +113,6 @@ module _ (b : DatabaseState) (t : TableState) (row : List Bool) (old : List Entr
 
   row_entry : (earlier : List Entry) (e : Entry) → IsRowEntry b.file b.table.group earlier e →
       IsDatabaseEntry after earlier e
-  row_entry earlier (Named v n) h = tt
   row_entry earlier (Given (Instance k j) c) h =
       let inside = numbered_low b.file.matrix j h.matches_origin.rest_is.clause h.matches_origin.rest_is.clause_is in
       let high = inside.1 in
@@ -139,14 +124,8 @@ module _ (b : DatabaseState) (t : TableState) (row : List Bool) (old : List Entr
       }
   row_entry earlier (Given (Gate v i) c) h = absurd (no_circuit h.own)
   row_entry earlier (Given (Fault j i leaf) c) h = absurd (no_circuit h.own)
-  row_entry earlier (Given (Copy side j) c) h = absurd (no_copy h.own)
-  row_entry earlier (Given (Link v i) c) h = absurd (no_copy h.own)
-  row_entry earlier (Given (TermGate v i) c) h = absurd (no_copy h.own)
-  row_entry earlier (Given (Differ y leaf i) c) h = absurd (no_copy h.own)
-  row_entry earlier (Learned c hs) h = tt
-  row_entry earlier (Answer c hs) h = tt
-  row_entry earlier (Round r values j) h = tt
-  row_entry earlier (Begun live) h = tt
+  row_entry earlier (Given _ c) h = absurd (no_copy h.own)
+  row_entry earlier _ h = tt
 
   givens : Each (IsDatabaseEntry after) (more ++ old)
   givens = each_grown (IsRowEntry b.file b.table.group) (IsDatabaseEntry after) row_entry more old each

@@ -8,11 +8,11 @@ use Rattle.std.specs.Option.{option_map}
 use Rattle.list_laws.proofs.Members.{element_at, place_of, contains_later}
 use Rattle.dq_lits.specs.Literal.{Literal}
 use Rattle.dq_lits.specs.Formula.{Dqbf, IsWellFormed}
-use Rattle.hint_log.specs.Entries.{Entry, Named, Given, Learned, Answer, Round, Begun, ProofLog, with_entry, name_of}
+use Rattle.hint_log.specs.Entries.{Entry, Named, Given, ProofLog, with_entry, name_of}
 use Rattle.hint_log.specs.Growth.{Each, Grew}
 use Rattle.hint_log.specs.Live.{with_matrix}
 use Rattle.hint_log.specs.declared.names.Name.TheVariants.{Selector}
-use Rattle.hint_log.specs.declared.origins.Origin.TheVariants.{Instance, Gate, Fault, Copy, Link, TermGate, Differ}
+use Rattle.hint_log.specs.declared.origins.Origin.TheVariants.{Instance}
 use Rattle.log_laws.specs.Engines.{instances, is_own, part, HasNone}
 use Rattle.log_laws.specs.Sessions.{IsAddedLive}
 use Rattle.log_laws.proofs.LargerLogs.{grown_by}
@@ -79,18 +79,9 @@ module _ (f : Dqbf) (t : TableState) where
   no_group (suc frame) g has = cc
 
   none_given : (e : Entry) (es : List Entry) → (is_own instances e ≡ true → ⊥) → IsDatabaseEntry b es e
-  none_given (Named v n) es foreign = tt
   none_given (Given (Instance k j) c) es foreign = absurd (foreign refl)
-  none_given (Given (Gate v i) c) es foreign = λ frame g has inside. no_group frame g has
-  none_given (Given (Fault j i leaf) c) es foreign = λ frame g has inside. no_group frame g has
-  none_given (Given (Copy side j) c) es foreign = λ frame g has inside. no_group frame g has
-  none_given (Given (Link v i) c) es foreign = λ frame g has inside. no_group frame g has
-  none_given (Given (TermGate v i) c) es foreign = λ frame g has inside. no_group frame g has
-  none_given (Given (Differ y leaf i) c) es foreign = λ frame g has inside. no_group frame g has
-  none_given (Learned c hs) es foreign = tt
-  none_given (Answer c hs) es foreign = tt
-  none_given (Round r values j) es foreign = tt
-  none_given (Begun live) es foreign = tt
+  none_given (Given _ c) es foreign = λ frame g has inside. no_group frame g has
+  none_given _ es foreign = tt
 
   all_none : (es : List Entry) → HasNone instances es → Each (IsDatabaseEntry b) es
   all_none [] none = tt

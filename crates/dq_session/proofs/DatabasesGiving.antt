@@ -1,4 +1,5 @@
--- A database whose clauses are being given their instances: one step after another, and a group that is made.
+-- A database whose clauses are being given their instances: one step after another, and a group
+-- that is made.
 use Rattle.std.proofs.Common.{◌≡◌, ℕ, ◌≤◌, ◌<◌, ◌⊎◌, inl, inr, Bool, false, List, length, slice_get, get_or, is_some, Option, Some, None, refl, sym, ◌∙◌, ap, subst, arith}
 use Rattle.std.specs.List.{Contains, filter_map}
 use Rattle.std.specs.Option.{option_map}
@@ -7,7 +8,7 @@ use Rattle.std.proofs.lemmas.Option.{slice_get-get_or}
 use Rattle.list_laws.proofs.Members.{filter_map-from, place_of, contains_cases}
 use Rattle.dq_lits.specs.Literal.{Literal, is_negative}
 use Rattle.hint_log.specs.Conditions.{AreLogged}
-use Rattle.hint_log.specs.Entries.{Entry, Named, Given, Learned, Answer, Round, Begun, ProofLog, with_entry, name_of}
+use Rattle.hint_log.specs.Entries.{Entry, Named, Given, Learned, Answer, ProofLog, with_entry, name_of}
 use Rattle.hint_log.specs.Growth.{Grew}
 use Rattle.hint_log.specs.ProductiveLog.{fault_groups, fault_room}
 use Rattle.hint_log.specs.declared.names.Name.TheVariants.{Selector}
@@ -78,8 +79,7 @@ module _ (a b c : DatabaseState) (first middle last : ProofLog) (x : IsGiving a 
   }
   added silent earlier (Learned d hs) h = tt
   added silent earlier (Answer d hs) h = h
-  added silent earlier (Round r values j) h = absurd h
-  added silent earlier (Begun live) h = absurd h
+  added silent earlier _ h = absurd h
 
   grew : (silent : Bool) → Grew (IsAddedLive (all_of a) instances (groups_of a) silent first.entries) first last
   grew silent =

@@ -8,7 +8,7 @@ use Rattle.list_laws.proofs.Elements.{old_or_last}
 use Rattle.dq_lits.specs.Literal.{Literal, negative}
 use Rattle.dq_lits.specs.Expansion.{universal_literal_true}
 use Rattle.hint_log.specs.Conditions.{AreLogged}
-use Rattle.hint_log.specs.Entries.{Entry, Named, Given, Learned, Answer, Round, Begun, ProofLog, with_entry, row_at}
+use Rattle.hint_log.specs.Entries.{Entry, Given, Round, ProofLog, with_entry, row_at}
 use Rattle.hint_log.specs.Growth.{Each}
 use Rattle.hint_log.specs.Naming.{numbered_from_one, AreNamedAs, on_arbiter, rows_of}
 use Rattle.hint_log.specs.Origins.{IsOriginsClause}
@@ -38,13 +38,9 @@ use Rattle.list_laws.proofs.Members.{contains_cases}
 pub row_there : (es : List Entry) (k : ℕ) (row : List Bool) → slice_get (rows_of es) k ≡ Some row →
     row_at es (k + 1) ≡ Some row
 row_there [] k row is = cc
-row_there (Named v n ∷ es) k row is = row_there es k row is
-row_there (Given o c ∷ es) k row is = row_there es k row is
-row_there (Learned c hs ∷ es) k row is = row_there es k row is
-row_there (Answer c hs ∷ es) k row is = row_there es k row is
 row_there (Round r values j ∷ es) k row is =
     search (arith, (row_there es k row), old_or_last, slice_get_within, rounds_are_rows, ne_eqb, eq-eqb)
-row_there (Begun live ∷ es) k row is = row_there es k row is
+row_there (_ ∷ es) k row is = row_there es k row is
 
 right_there : (xs ys : List (List Literal)) (p : ℕ) (c : List Literal) → slice_get ys p ≡ Some c →
     slice_get (xs ++ ys) (length xs + p) ≡ Some c

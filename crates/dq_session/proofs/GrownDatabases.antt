@@ -3,14 +3,14 @@ use Rattle.std.proofs.Common.{◌≡◌, ℕ, ◌≤◌, ◌⊎◌, inl, inr, Li
 use Rattle.dq_lits.specs.Literal.{Literal}
 use Rattle.dq_lits.specs.Formula.{Dqbf}
 use Rattle.hint_log.specs.Conditions.{AreNamed, MayFollow}
-use Rattle.hint_log.specs.Entries.{Entry, Named, Given, Learned, Answer, Round, Begun, name_of}
+use Rattle.hint_log.specs.Entries.{Entry, Given, name_of}
 use Rattle.hint_log.specs.Growth.{Each}
 use Rattle.hint_log.specs.Live.{with_matrix}
 use Rattle.hint_log.specs.Naming.{numbered_from_one}
 use Rattle.hint_log.specs.Origins.{IsOriginsClause}
 use Rattle.hint_log.specs.ProductiveSession.{frame_of}
 use Rattle.hint_log.specs.declared.origins.Origin.{Origin}
-use Rattle.hint_log.specs.declared.origins.Origin.TheVariants.{Instance, Gate, Fault, Copy, Link, TermGate, Differ}
+use Rattle.hint_log.specs.declared.origins.Origin.TheVariants.{Instance}
 use Rattle.hint_log.proofs.NamedEntries.{unnamed_before}
 use Rattle.log_laws.specs.Engines.{IsInGroup}
 use Rattle.oracle.specs.declared.groups.Group.{Group}
@@ -72,18 +72,9 @@ module _ (b : DatabaseState) (table : TableState) (added : List (List Literal)) 
         (no_frame : (earlier : List Entry) (origin : Origin) (c : List Literal) → Q earlier (Given origin c) →
         IsInNoFrame b c → IsInNoFrame after c) where
       entry_by : (earlier : List Entry) (e : Entry) → Q earlier e → IsDatabaseEntry b earlier e → IsDatabaseEntry after earlier e
-      entry_by earlier (Named v n) q h = tt
       entry_by earlier (Given (Instance k j) c) q h = instance_kept earlier k j c h
-      entry_by earlier (Given (Gate v i) c) q h = no_frame earlier (Gate v i) c q h
-      entry_by earlier (Given (Fault j i leaf) c) q h = no_frame earlier (Fault j i leaf) c q h
-      entry_by earlier (Given (Copy side j) c) q h = no_frame earlier (Copy side j) c q h
-      entry_by earlier (Given (Link v i) c) q h = no_frame earlier (Link v i) c q h
-      entry_by earlier (Given (TermGate v i) c) q h = no_frame earlier (TermGate v i) c q h
-      entry_by earlier (Given (Differ y leaf i) c) q h = no_frame earlier (Differ y leaf i) c q h
-      entry_by earlier (Learned c hs) q h = tt
-      entry_by earlier (Answer c hs) q h = tt
-      entry_by earlier (Round r bits j) q h = tt
-      entry_by earlier (Begun numbers) q h = tt
+      entry_by earlier (Given e c) q h = no_frame earlier e c q h
+      entry_by earlier _ q h = tt
 
       entries_by : (es : List Entry) → Each Q es → Each (IsDatabaseEntry b) es → Each (IsDatabaseEntry after) es
       entries_by [] q h = tt

@@ -13,7 +13,7 @@ use Rattle.dq_lits.specs.Formula.{Dqbf, declared, IsWellFormed}
 use Rattle.dq_lits.specs.Expansion.{universal_literal_true, pair_literal, InstanceHolds, IsExpansionModel, pair_number}
 use Rattle.dq_lits.proofs.TrueClauses.{positive_true}
 use Rattle.hint_log.specs.Conditions.{AreLogged}
-use Rattle.hint_log.specs.Entries.{Entry, Given, Learned, Answer, Named, Round, Begun, clause_at}
+use Rattle.hint_log.specs.Entries.{Entry, Given, Learned, Answer, clause_at}
 use Rattle.hint_log.specs.Growth.{EachOf}
 use Rattle.hint_log.specs.Naming.{numbered_from_one, rows_of}
 use Rattle.hint_log.specs.declared.origins.Origin.TheVariants.{Instance}
@@ -189,12 +189,9 @@ found_live b es points database whole logged found =
 foreign : (b : DatabaseState) (silent : Bool) (more old : List Entry) → EachOf (IsSearchEntry silent) more old →
     EachOf (IsForeign b) more old
 foreign b silent [] old each = tt
-foreign b silent (Named v n ∷ more) old each = absurd each.0
-foreign b silent (Given o c ∷ more) old each = absurd each.0
 foreign b silent (Learned c hs ∷ more) old each = (tt, foreign b silent more old each.1)
 foreign b silent (Answer c hs ∷ more) old each = (tt, foreign b silent more old each.1)
-foreign b silent (Round r bits j ∷ more) old each = absurd each.0
-foreign b silent (Begun live ∷ more) old each = absurd each.0
+foreign b silent (_ ∷ more) old each = absurd each.0
 
 pub databases_searched : SearchesLeaveDatabases
 databases_searched b silent old new grew =

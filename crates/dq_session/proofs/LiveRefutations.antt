@@ -16,7 +16,7 @@ use Rattle.hint_log.specs.Naming.{numbered_from_one, rows_of}
 use Rattle.hint_log.specs.Origins.{IsOriginsClause}
 use Rattle.hint_log.specs.ProductiveSession.{frame_of}
 use Rattle.hint_log.specs.declared.origins.Origin.{Origin}
-use Rattle.hint_log.specs.declared.origins.Origin.TheVariants.{Instance, Gate, Fault, Copy, Link, TermGate, Differ}
+use Rattle.hint_log.specs.declared.origins.Origin.TheVariants.{Instance}
 use Rattle.hint_log.proofs.NamedEntries.{numbered_low}
 use Rattle.log_laws.specs.Engines.{IsInGroup}
 use Rattle.log_laws.proofs.Found.{split_at, each_at}
@@ -94,49 +94,24 @@ module _ (b : DatabaseState) (es : List Entry) (database : IsDatabase b es) (ear
       (IsInGroup b.table.group c → IsInstance origin × IsOriginsClause b.file earlier origin c)
       → IsLiveInstance b earlier c origin
   live_instance (Instance k j) entry is_active own = search (arith, live_by_frame, open_frame)
-  live_instance (Gate v i) entry (inl inside) own = absurd (own inside).0
-  live_instance (Gate v i) entry (inr (frame, g, is_open, has, inside)) own = absurd (entry frame g has inside)
-  live_instance (Fault j i leaf) entry (inl inside) own = absurd (own inside).0
-  live_instance (Fault j i leaf) entry (inr (frame, g, is_open, has, inside)) own = absurd (entry frame g has inside)
-  live_instance (Copy side j) entry (inl inside) own = absurd (own inside).0
-  live_instance (Copy side j) entry (inr (frame, g, is_open, has, inside)) own = absurd (entry frame g has inside)
-  live_instance (Link v i) entry (inl inside) own = absurd (own inside).0
-  live_instance (Link v i) entry (inr (frame, g, is_open, has, inside)) own = absurd (entry frame g has inside)
-  live_instance (TermGate v i) entry (inl inside) own = absurd (own inside).0
-  live_instance (TermGate v i) entry (inr (frame, g, is_open, has, inside)) own = absurd (entry frame g has inside)
-  live_instance (Differ y leaf i) entry (inl inside) own = absurd (own inside).0
-  live_instance (Differ y leaf i) entry (inr (frame, g, is_open, has, inside)) own = absurd (entry frame g has inside)
+  live_instance _ entry (inr (frame, g, is_open, has, inside)) own = absurd (entry frame g has inside)
+  live_instance _ entry (inl inside) own = absurd (own inside).0
 
 is_instance : (b : DatabaseState) (earlier : List Entry) (c : List Literal) (origin : Origin) →
     IsLiveInstance b earlier c origin → IsInstance origin
 is_instance b earlier c (Instance k j) h = tt
-is_instance b earlier c (Gate v i) h = absurd h
-is_instance b earlier c (Fault j i leaf) h = absurd h
-is_instance b earlier c (Copy side j) h = absurd h
-is_instance b earlier c (Link v i) h = absurd h
-is_instance b earlier c (TermGate v i) h = absurd h
-is_instance b earlier c (Differ y leaf i) h = absurd h
+is_instance b earlier c _ h = absurd h
 
 is_right : (b : DatabaseState) (earlier : List Entry) (c : List Literal) (origin : Origin) →
     IsLiveInstance b earlier c origin → IsOriginsClause (all_of b) earlier origin c
 is_right b earlier c (Instance k j) h = h.0
-is_right b earlier c (Gate v i) h = absurd h
-is_right b earlier c (Fault j i leaf) h = absurd h
-is_right b earlier c (Copy side j) h = absurd h
-is_right b earlier c (Link v i) h = absurd h
-is_right b earlier c (TermGate v i) h = absurd h
-is_right b earlier c (Differ y leaf i) h = absurd h
+is_right b earlier c _ h = absurd h
 
 is_among : (b : DatabaseState) (earlier : List Entry) (c : List Literal) (origin : Origin) →
     IsLiveInstance b earlier c origin → IsInstanceAmong (all_of b) (now_of b).matrix origin
 is_among b earlier c (Instance k j) h = λ clause at.
     contains-filter_map (numbered_from_one (all_of b).matrix) (live_of b) j clause h.1 at
-is_among b earlier c (Gate v i) h = absurd h
-is_among b earlier c (Fault j i leaf) h = absurd h
-is_among b earlier c (Copy side j) h = absurd h
-is_among b earlier c (Link v i) h = absurd h
-is_among b earlier c (TermGate v i) h = absurd h
-is_among b earlier c (Differ y leaf i) h = absurd h
+is_among b earlier c _ h = absurd h
 
 contains_map : (gs : List Group) (v : ℕ) → Contains (map (λ g. number_of g) gs) v →
     (g : Group) × Contains gs g × (number_of g ≡ v)

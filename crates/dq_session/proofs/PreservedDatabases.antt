@@ -10,8 +10,8 @@ use Rattle.hint_log.specs.Growth.{EachOf}
 use Rattle.hint_log.specs.Naming.{rows_of}
 use Rattle.hint_log.specs.declared.names.Name.{Name}
 use Rattle.hint_log.specs.declared.names.Name.TheVariants.{Selector}
-use Rattle.hint_log.specs.declared.origins.Origin.TheVariants.{Instance, Gate, Fault, Copy, Link, TermGate, Differ}
-use Rattle.log_laws.specs.Engines.{Engine, circuits, instances, copies, same_engine, origin_engine, name_engine, is_engine, part, IsInGroup, IsOwnGiven}
+use Rattle.hint_log.specs.declared.origins.Origin.TheVariants.{Instance}
+use Rattle.log_laws.specs.Engines.{Engine, instances, same_engine, origin_engine, name_engine, is_engine, part, IsInGroup, IsOwnGiven}
 use Rattle.log_laws.specs.Sessions.{IsAddedLive}
 use Rattle.oracle.specs.declared.groups.Group.{Group}
 use Rattle.dq_session.specs.Databases.{DatabaseState, HasGroup, number_of, IsInNoFrame, IsDatabaseEntry, HasDoneInstances, IsDatabase}
@@ -19,7 +19,8 @@ use Rattle.dq_session.specs.Changes.{groups_of}
 use Rattle.dq_session.specs.Preservation.{EnginesLeaveDatabases, RoundsLeaveDatabases, BeginningsLeaveDatabases}
 use Rattle.log_laws.proofs.Kept.{in_one_group}
 
--- what is none of the database's business: names, clauses off its groups, and all that is no given clause
+-- what is none of the database's business: names, clauses off its groups, and all that is no given
+-- clause
 abbrev pub IsForeign : DatabaseState → List Entry → Entry → Type 0
 IsForeign b earlier (Named v n) = (name_of earlier v ≡ None) × (is_engine instances (name_engine n) ≡ false)
 IsForeign b earlier (Given origin c) =
@@ -30,10 +31,7 @@ part_same : (b : DatabaseState) (e : Entry) (es : List Entry) → IsForeign b es
     part instances (e ∷ es) ≡ part instances es
 part_same b (Named v n) es f = ap (λ t. cond t (Named v n ∷ part instances es) (part instances es)) f.1
 part_same b (Given o c) es f = ap (λ t. cond t (Given o c ∷ part instances es) (part instances es)) f.0
-part_same b (Learned c hs) es f = refl
-part_same b (Answer c hs) es f = refl
-part_same b (Round r bits j) es f = refl
-part_same b (Begun live) es f = refl
+part_same b _ es f = refl
 
 pub name_more : (es : List Entry) (w : ℕ) (n : Name) (v : ℕ) (m : Name) → name_of es w ≡ None →
     name_of es v ≡ Some m → name_of (Named w n ∷ es) v ≡ Some m
@@ -42,34 +40,17 @@ name_more es w n v m none is = search (arith, eqb-true)
 names_stay : (b : DatabaseState) (e : Entry) (es : List Entry) → IsForeign b es e → (v : ℕ) (m : Name) →
     name_of es v ≡ Some m → name_of (e ∷ es) v ≡ Some m
 names_stay b (Named w n) es f v m is = name_more es w n v m f.0 is
-names_stay b (Given o c) es f v m is = is
-names_stay b (Learned c hs) es f v m is = is
-names_stay b (Answer c hs) es f v m is = is
-names_stay b (Round r bits j) es f v m is = is
-names_stay b (Begun live) es f v m is = is
+names_stay b _ es f v m is = is
 
 own_given : (b : DatabaseState) (e : Entry) (es : List Entry) → IsForeign b es e →
     IsOwnGiven b.file instances b.table.group es e
-own_given b (Named w n) es f = tt
 own_given b (Given o c) es f = λ inside. absurd (f.2 inside)
-own_given b (Learned c hs) es f = tt
-own_given b (Answer c hs) es f = tt
-own_given b (Round r bits j) es f = tt
-own_given b (Begun live) es f = tt
+own_given b _ es f = tt
 
 database_entry : (b : DatabaseState) (e : Entry) (es : List Entry) → IsForeign b es e → IsDatabaseEntry b es e
-database_entry b (Named w n) es f = tt
 database_entry b (Given (Instance k j) c) es f = absurd (true≢false f.0)
-database_entry b (Given (Gate v i) c) es f = f.1
-database_entry b (Given (Fault j i leaf) c) es f = f.1
-database_entry b (Given (Copy side j) c) es f = f.1
-database_entry b (Given (Link v i) c) es f = f.1
-database_entry b (Given (TermGate v i) c) es f = f.1
-database_entry b (Given (Differ y leaf i) c) es f = f.1
-database_entry b (Learned c hs) es f = tt
-database_entry b (Answer c hs) es f = tt
-database_entry b (Round r bits j) es f = tt
-database_entry b (Begun live) es f = tt
+database_entry b (Given _ c) es f = f.1
+database_entry b _ es f = tt
 
 pub database_stands : (b : DatabaseState) (e : Entry) (es : List Entry) → IsForeign b es e → IsDatabase b es → IsDatabase b (e ∷ es)
 database_stands b e es f database = record {
@@ -97,9 +78,8 @@ databases_stand b (e ∷ more) old each database = database_stands b e (more ++ 
 
 -- other engines
 other_engine : (engine : Engine) → same_engine engine instances ≡ false → same_engine instances engine ≡ false
-other_engine circuits e = refl
 other_engine instances e = e
-other_engine copies e = refl
+other_engine _ e = refl
 
 not_own_name : (engine : Engine) (o : Option Engine) → same_engine engine instances ≡ false →
     (o ≡ None) ⊎ (o ≡ Some engine) → is_engine instances o ≡ false
@@ -146,8 +126,7 @@ module _ (all : Dqbf) (b : DatabaseState) (engine : Engine) (groups : List ℕ) 
   )
   foreign earlier (Learned c hs) h = tt
   foreign earlier (Answer c hs) h = tt
-  foreign earlier (Round r bits j) h = absurd h
-  foreign earlier (Begun live) h = absurd h
+  foreign earlier _ h = absurd h
 
   all_foreign : (more : List Entry) → EachOf (IsAddedLive all engine groups silent old) more old →
       EachOf (IsForeign b) more old
@@ -157,14 +136,9 @@ module _ (all : Dqbf) (b : DatabaseState) (engine : Engine) (groups : List ℕ) 
 pub same_rows : (all : Dqbf) (engine : Engine) (groups : List ℕ) (silent : Bool) (first more old : List Entry) →
     EachOf (IsAddedLive all engine groups silent first) more old → rows_of (more ++ old) ≡ rows_of old
 same_rows all engine groups silent first [] old h = refl
-same_rows all engine groups silent first (Named v n ∷ more) old h = same_rows all engine groups silent first more old h.1
-same_rows all engine groups silent first (Given o c ∷ more) old h = same_rows all engine groups silent first more old h.1
-same_rows all engine groups silent first (Learned c hs ∷ more) old h =
-    same_rows all engine groups silent first more old h.1
-same_rows all engine groups silent first (Answer c hs ∷ more) old h =
-    same_rows all engine groups silent first more old h.1
 same_rows all engine groups silent first (Round r bits j ∷ more) old h = absurd h.0
 same_rows all engine groups silent first (Begun live ∷ more) old h = absurd h.0
+same_rows all engine groups silent first (_ ∷ more) old h = same_rows all engine groups silent first more old h.1
 
 pub databases_left : EnginesLeaveDatabases
 databases_left all b engine groups silent old new grew other apart =

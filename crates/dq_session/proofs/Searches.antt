@@ -3,10 +3,10 @@ use Rattle.std.proofs.Common.{◌≡◌, ℕ, zero, suc, ◌+◌, Bool, true≢f
 use Rattle.std.specs.List.{filter_map, cons_option}
 use Rattle.dq_lits.specs.Formula.{Dqbf}
 use Rattle.hint_log.specs.Deciding.{IsInstance}
-use Rattle.hint_log.specs.Entries.{Entry, Named, Given, Learned, Answer, Round, Begun, ProofLog}
+use Rattle.hint_log.specs.Entries.{Entry, Given, Learned, Answer, ProofLog}
 use Rattle.hint_log.specs.Growth.{Grew}
 use Rattle.hint_log.specs.declared.origins.Origin.{Origin}
-use Rattle.hint_log.specs.declared.origins.Origin.TheVariants.{Instance, Gate, Fault, Copy, Link, TermGate, Differ}
+use Rattle.hint_log.specs.declared.origins.Origin.TheVariants.{Instance}
 use Rattle.hint_log.proofs.NamedEntries.{each_one}
 use Rattle.log_laws.specs.Engines.{instances}
 use Rattle.log_laws.specs.Sessions.{IsAddedLive}
@@ -20,12 +20,9 @@ use Rattle.dq_session.proofs.LiveRefutations.{group_open}
 
 search_added : (all : Dqbf) (groups : List ℕ) (silent : Bool) (first earlier : List Entry) (e : Entry) →
     IsSearchEntry silent earlier e → IsAddedLive all instances groups silent first earlier e
-search_added all groups silent first earlier (Named v n) h = absurd h
-search_added all groups silent first earlier (Given o c) h = absurd h
 search_added all groups silent first earlier (Learned c hs) h = tt
 search_added all groups silent first earlier (Answer c hs) h = λ quiet. absurd (true≢false (sym quiet ∙ h))
-search_added all groups silent first earlier (Round r values j) h = absurd h
-search_added all groups silent first earlier (Begun live) h = absurd h
+search_added all groups silent first earlier _ h = absurd h
 
 -- what a search adds is right in a session, over whatever clauses and groups
 pub search_grew : (all : Dqbf) (groups : List ℕ) (silent : Bool) (first : List Entry) (old new : ProofLog) →
@@ -42,12 +39,7 @@ module _ (b : DatabaseState) (es : List Entry) (database : IsDatabase b es) wher
       by : (o : Origin) (frame : ℕ) → HasGroup b frame g → (earlier : List Entry) →
           IsDatabaseEntry b earlier (Given o c) → IsInstance o
       by (Instance k j) frame mine earlier entry = tt
-      by (Gate v i) frame mine earlier entry = absurd (entry frame g mine inside)
-      by (Fault j i leaf) frame mine earlier entry = absurd (entry frame g mine inside)
-      by (Copy side j) frame mine earlier entry = absurd (entry frame g mine inside)
-      by (Link v i) frame mine earlier entry = absurd (entry frame g mine inside)
-      by (TermGate v i) frame mine earlier entry = absurd (entry frame g mine inside)
-      by (Differ y leaf i) frame mine earlier entry = absurd (entry frame g mine inside)
+      by _ frame mine earlier entry = absurd (entry frame g mine inside)
 
 -- what passes of the first so many elements
 pub taken_more : {X Y : Type 0} (h : X → Option Y) (xs : List X) (i : ℕ) (x : X) → slice_get xs i ≡ Some x →

@@ -1,5 +1,5 @@
--- What leaves a database as it stands: what other engines add to the log, a new round, and that a search
--- begins.
+-- What leaves a database as it stands: what other engines add to the log, a new round, and that a
+-- search begins.
 use Rattle.std.specs.Prelude.{◌≡◌, ◌≢◌, ℕ, Bool, false, List, [], ◌∷◌, ◌++◌}
 use Rattle.std.specs.List.{Contains}
 use Rattle.dq_lits.specs.Formula.{Dqbf}
