@@ -9,7 +9,7 @@ use Rattle.dq_lits.specs.Literal.{Literal}
 use Rattle.dq_lits.specs.Formula.{Dqbf, IsWellFormed}
 use Rattle.dq_lits.specs.Expansion.{universal_literal_true}
 use Rattle.hint_log.specs.Conditions.{AreLogged}
-use Rattle.hint_log.specs.Entries.{Entry, Named, Given, Learned, Answer, Round, Begun, ProofLog, name_of}
+use Rattle.hint_log.specs.Entries.{Entry, Named, Given, ProofLog, name_of}
 use Rattle.hint_log.specs.Growth.{Grew}
 use Rattle.hint_log.specs.Naming.{AreNamedAs, arbiter, rows_of}
 use Rattle.hint_log.specs.ProductiveLog.{fault_groups, fault_room}
@@ -176,10 +176,7 @@ module _ (f : Dqbf) (group : ℕ) (silent : Bool) (first : List Entry) where
       IsAddedBy f instances group silent first earlier e
   row_is_added earlier (Named v n) h = h
   row_is_added earlier (Given origin c) h = search arith
-  row_is_added earlier (Learned c hints) h = absurd h
-  row_is_added earlier (Answer c hints) h = absurd h
-  row_is_added earlier (Round r values j) h = absurd h
-  row_is_added earlier (Begun live) h = absurd h
+  row_is_added earlier _ h = absurd h
 
   pub row_grew : (old new : ProofLog) → Grew (IsRowEntry f group) old new →
       Grew (IsAddedBy f instances group silent first) old new

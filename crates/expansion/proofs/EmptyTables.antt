@@ -6,7 +6,7 @@ use Rattle.std.proofs.lemmas.List.Elements.{All-head}
 use Rattle.dq_lits.specs.Literal.{negative, variable_of}
 use Rattle.dq_lits.specs.Formula.{Dqbf}
 use Rattle.hint_log.specs.Conditions.{AreLogged}
-use Rattle.hint_log.specs.Entries.{Entry, Named, Given, Learned, Answer, Round, Begun, ProofLog, with_entry, name_of}
+use Rattle.hint_log.specs.Entries.{Entry, Named, Given, ProofLog, with_entry, name_of}
 use Rattle.hint_log.specs.declared.names.Name.{Name}
 use Rattle.hint_log.specs.declared.names.Name.TheVariants.{Selector}
 use Rattle.hint_log.specs.Growth.{Each, Grew}
@@ -35,10 +35,7 @@ not_given f engine g (Given origin c ∷ es) lawful none = (
     no_some : (o : Option Name) → o ≡ None → IsSome o → ⊥
     no_some None is some = cc
     no_some (Some n) is some = cc
-not_given f engine g (Learned c hints ∷ es) lawful none = (tt, not_given f engine g es lawful.1 none)
-not_given f engine g (Answer c hints ∷ es) lawful none = (tt, not_given f engine g es lawful.1 none)
-not_given f engine g (Round row values j ∷ es) lawful none = (tt, not_given f engine g es lawful.1 none)
-not_given f engine g (Begun live ∷ es) lawful none = (tt, not_given f engine g es lawful.1 none)
+not_given f engine g (_ ∷ es) lawful none = (tt, not_given f engine g es lawful.1 none)
 
 pub group_grew : (f : Dqbf) (engine : Engine) (group g : ℕ) (old new : ProofLog) → name_of old.entries g ≡ None →
     new ≡ with_entry old (Named g (Selector g)) →

@@ -11,7 +11,7 @@ use Rattle.dq_lits.specs.Literal.{Literal, positive, negative, variable_of, is_n
 use Rattle.dq_lits.specs.Formula.{Dqbf, Existential, existential_of}
 use Rattle.dq_lits.specs.Expansion.{universal_literal_true}
 use Rattle.hint_log.specs.Conditions.{AreLogged}
-use Rattle.hint_log.specs.Entries.{Entry, Named, Given, Learned, Answer, Round, Begun, ProofLog, with_entry, rounds_of, row_at, name_of}
+use Rattle.hint_log.specs.Entries.{Entry, Named, Given, Round, ProofLog, with_entry, rounds_of, row_at, name_of}
 use Rattle.hint_log.specs.Growth.{Grew}
 use Rattle.hint_log.specs.Naming.{numbered_from_one, named_literal, name_literal, AreNamedAs, arbiter, on_arbiter, rows_of, is_selector_name}
 use Rattle.hint_log.specs.Origins.{IsOriginsClause}
@@ -34,12 +34,8 @@ use Rattle.list_laws.proofs.Members.{contains_cases, contains_later}
 -- the row of the newest round
 pub rounds_are_rows : (es : List Entry) → rounds_of es ≡ length (rows_of es)
 rounds_are_rows [] = refl
-rounds_are_rows (Named v n ∷ es) = rounds_are_rows es
-rounds_are_rows (Given o c ∷ es) = rounds_are_rows es
-rounds_are_rows (Learned c hs ∷ es) = rounds_are_rows es
-rounds_are_rows (Answer c hs ∷ es) = rounds_are_rows es
 rounds_are_rows (Round r b j ∷ es) = search (arith, (rounds_are_rows es), length-append)
-rounds_are_rows (Begun live ∷ es) = rounds_are_rows es
+rounds_are_rows (_ ∷ es) = rounds_are_rows es
 
 last_same : {X : Type 0} (xs ys : List X) (x y : X) → xs ++ x ∷ [] ≡ ys ++ y ∷ [] → (xs ≡ ys) × (x ≡ y)
 last_same [] [] x y e = (refl, cc)
@@ -50,12 +46,8 @@ last_same (z ∷ xs) (w ∷ ys) x y e = search (arith, (last_same xs ys x y))
 newest_row : (es : List Entry) (rows : List (List Bool)) (row : List Bool) → rows_of es ≡ rows ++ row ∷ [] →
     row_at es (length rows + 1) ≡ Some row
 newest_row [] rows row is = search (arith, (length-append rows (row ∷ [])))
-newest_row (Named v n ∷ es) rows row is = newest_row es rows row is
-newest_row (Given o c ∷ es) rows row is = newest_row es rows row is
-newest_row (Learned c hs ∷ es) rows row is = newest_row es rows row is
-newest_row (Answer c hs ∷ es) rows row is = newest_row es rows row is
 newest_row (Round r b j ∷ es) rows row is = search (arith, last_same, rounds_are_rows, eq-eqb)
-newest_row (Begun live ∷ es) rows row is = newest_row es rows row is
+newest_row (_ ∷ es) rows row is = newest_row es rows row is
 
 -- what is the table's is in its part
 pub own_contains : (es : List Entry) (e : Entry) → is_own instances e ≡ true → Contains es e →
@@ -76,11 +68,7 @@ own_contains (x ∷ es) e mine has =
 pub named_range : (es : List Entry) (v : ℕ) (n : Name) → AreLogged es → name_of es v ≡ Some n → (1 ≤ v) × (v < 2 ^ 62)
 named_range [] v n logged is = cc
 named_range (Named w m ∷ es) v n logged is = search (arith, (named_range es v n logged.1), eqb-true)
-named_range (Given o c ∷ es) v n logged is = named_range es v n logged.1 is
-named_range (Learned c hs ∷ es) v n logged is = named_range es v n logged.1 is
-named_range (Answer c hs ∷ es) v n logged is = named_range es v n logged.1 is
-named_range (Round r b j ∷ es) v n logged is = named_range es v n logged.1 is
-named_range (Begun live ∷ es) v n logged is = named_range es v n logged.1 is
+named_range (_ ∷ es) v n logged is = named_range es v n logged.1 is
 
 pub arbiters_in_range : (es : List Entry) (g : Existential → Name) (vs : List ℕ) (ys : List Existential) →
     AreLogged es → map (name_of (part instances es)) vs ≡ map (λ y. Some (g y)) ys → AreInRange vs

@@ -7,9 +7,9 @@ use Rattle.dq_lits.specs.Literal.{Assignment}
 use Rattle.dq_lits.specs.Formula.{Dqbf, Existential}
 use Rattle.dq_lits.specs.Expansion.{agree_on, pair_number}
 use Rattle.hint_log.specs.Conditions.{AreLogged}
-use Rattle.hint_log.specs.Entries.{Entry, Named, Given, Learned, Answer, Round, Begun, name_of}
+use Rattle.hint_log.specs.Entries.{Entry, Named, Given, name_of}
 use Rattle.hint_log.specs.declared.names.Name.{Name}
-use Rattle.hint_log.specs.declared.names.Name.TheVariants.{Selector, Pair, Input, And, Bad, Copy, Term}
+use Rattle.hint_log.specs.declared.names.Name.TheVariants.{Pair}
 use Rattle.hint_log.specs.Naming.{arbiter}
 use Rattle.log_laws.specs.Engines.{Engine, part}
 use Rattle.list_laws.proofs.Members.{contains_cases, contains_later}
@@ -20,10 +20,7 @@ pub own_name : (engine : Engine) (es : List Entry) (v : ℕ) (n : Name) → AreL
 own_name engine [] v n logged h = h
 own_name engine (Named w m ∷ es) v n logged h = search (arith, (own_name engine es v n logged.1), eqb-true)
 own_name engine (Given o c ∷ es) v n logged h = search (arith, (own_name engine es v n logged.1))
-own_name engine (Learned c hs ∷ es) v n logged h = own_name engine es v n logged.1 h
-own_name engine (Answer c hs ∷ es) v n logged h = own_name engine es v n logged.1 h
-own_name engine (Round r b j ∷ es) v n logged h = own_name engine es v n logged.1 h
-own_name engine (Begun live ∷ es) v n logged h = own_name engine es v n logged.1 h
+own_name engine (_ ∷ es) v n logged h = own_name engine es v n logged.1 h
 
 -- an entry of an engine's part is one of the log
 pub own_entry : (engine : Engine) (es : List Entry) (e : Entry) → Contains (part engine es) e → Contains es e
@@ -42,12 +39,7 @@ variable_for (_ ∷ es) k y = variable_for es k y
 
 is_pair_sound : (n : Name) (k y : ℕ) → is_pair n k y ≡ true → n ≡ Pair k y
 is_pair_sound (Pair l z) k y h = search (arith, and_parts, eqb-true)
-is_pair_sound (Selector g) k y h = absurd (true≢false (sym h))
-is_pair_sound (Input x) k y h = absurd (true≢false (sym h))
-is_pair_sound (And a b) k y h = absurd (true≢false (sym h))
-is_pair_sound (Bad g j) k y h = absurd (true≢false (sym h))
-is_pair_sound (Copy s v) k y h = absurd (true≢false (sym h))
-is_pair_sound (Term a b) k y h = absurd (true≢false (sym h))
+is_pair_sound _ k y h = absurd (true≢false (sym h))
 
 is_pair_itself : (k y : ℕ) → is_pair (Pair k y) k y ≡ true
 is_pair_itself k y = ap (λ b. b && (y == y)) (eq-eqb k k refl) ∙ eq-eqb y y refl
@@ -57,11 +49,7 @@ pub found_variable : (es : List Entry) (v k y : ℕ) → AreLogged es → name_o
 found_variable [] v k y logged h = cc
 found_variable (Named w n ∷ es) v k y logged h =
     search (arith, (found_variable es v k y logged.1), eqb-true, is_pair_sound, true≢false, is_pair_itself)
-found_variable (Given _ _ ∷ es) v k y logged h = found_variable es v k y logged.1 h
-found_variable (Learned _ _ ∷ es) v k y logged h = found_variable es v k y logged.1 h
-found_variable (Answer _ _ ∷ es) v k y logged h = found_variable es v k y logged.1 h
-found_variable (Round _ _ _ ∷ es) v k y logged h = found_variable es v k y logged.1 h
-found_variable (Begun _ ∷ es) v k y logged h = found_variable es v k y logged.1 h
+found_variable (_ ∷ es) v k y logged h = found_variable es v k y logged.1 h
 
 -- the bits of the pairs, by the values of their arbiters
 abbrev pub pair_values : Assignment → List Entry → ℕ → Assignment

@@ -1,4 +1,5 @@
--- First rows in order of the bits that an existential sees: what a search finds among them, and how they grow.
+-- First rows in order of the bits that an existential sees: what a search finds among them, and how
+-- they grow.
 use Rattle.std.proofs.Common.{◌≡◌, ℕ, zero, suc, ◌+◌, ◌-◌, ◌≤◌, ◌<◌, ◌⊎◌, inl, inr, Bool, true, false, List, [], ◌∷◌, ◌++◌, length, get_or, slice_get, Result, Ok, Err, refl, sym, ◌∙◌, ap, subst, arith}
 use Rattle.std.specs.List.{Contains, insert, position_or_len}
 use Rattle.std.specs.List.Sorted.{IsBinarySearchResult, IsSortedBy, IsNonDecreasingBy}

@@ -11,10 +11,10 @@ use Rattle.dq_lits.specs.Derivation.{holds}
 use Rattle.dq_lits.specs.Expansion.{IsExpansionUnsatisfiable}
 use Rattle.dq_lits.proofs.Truth.{same_literal-sound}
 use Rattle.dq_lits.proofs.HeldLiterals.{all_held}
-use Rattle.hint_log.specs.Entries.{Entry, Named, Given, Learned, Answer, Round, Begun, ProofLog, name_of}
+use Rattle.hint_log.specs.Entries.{Entry, Given, Learned, Answer, ProofLog, name_of}
 use Rattle.hint_log.specs.declared.names.Name.TheVariants.{Selector}
 use Rattle.hint_log.specs.declared.origins.Origin.{Origin}
-use Rattle.hint_log.specs.declared.origins.Origin.TheVariants.{Instance, Gate, Fault, Copy, Link, TermGate, Differ}
+use Rattle.hint_log.specs.declared.origins.Origin.TheVariants.{Instance}
 use Rattle.hint_log.specs.Deciding.{ReachesGiven, IsInstance, AreNegatedSelectors, DecidesFalse}
 use Rattle.hint_log.specs.Growth.{Each, EachOf, Grew}
 use Rattle.hint_log.specs.Naming.{rows_of}
@@ -35,12 +35,8 @@ use Rattle.log_laws.proofs.Kept.{each_of_weaker}
 -- what was learned is what a search adds
 learned_is_found : (silent : Bool) (earlier : List Entry) (e : Entry) → IsLearnedEntry earlier e →
     IsSearchEntry silent earlier e
-learned_is_found silent earlier (Named v n) h = absurd h
-learned_is_found silent earlier (Given origin c) h = absurd h
 learned_is_found silent earlier (Learned c hints) h = tt
-learned_is_found silent earlier (Answer c hints) h = absurd h
-learned_is_found silent earlier (Round row values j) h = absurd h
-learned_is_found silent earlier (Begun live) h = absurd h
+learned_is_found silent earlier _ h = absurd h
 
 pub learned_grew : (silent : Bool) (old new : ProofLog) → Grew IsLearnedEntry old new →
     Grew (IsSearchEntry silent) old new
@@ -61,12 +57,9 @@ refuted_grew silent loud assumptions old new id r =
 module _ (f : Dqbf) (engine : Engine) (group : ℕ) (silent : Bool) (old : List Entry) where
   found_is_added : (earlier : List Entry) (e : Entry) → IsSearchEntry silent earlier e →
       IsAddedBy f engine group silent old earlier e
-  found_is_added earlier (Named v n) h = absurd h
-  found_is_added earlier (Given origin c) h = absurd h
   found_is_added earlier (Learned c hints) h = tt
   found_is_added earlier (Answer c hints) h = λ quiet. absurd (true≢false (sym quiet ∙ h))
-  found_is_added earlier (Round row values j) h = absurd h
-  found_is_added earlier (Begun live) h = absurd h
+  found_is_added earlier _ h = absurd h
 
 pub searched_grew : (f : Dqbf) (engine : Engine) (group : ℕ) (silent : Bool) (old new : ProofLog) →
     Grew (IsSearchEntry silent) old new → Grew (IsAddedBy f engine group silent old.entries) old new
@@ -74,42 +67,30 @@ searched_grew f engine group silent old new g = search (arith, each_of_weaker, f
 
 found_not_own : (silent : Bool) (engine : Engine) (earlier : List Entry) (e : Entry) → IsSearchEntry silent earlier e →
     is_own engine e ≡ false
-found_not_own silent engine earlier (Named v n) h = absurd h
-found_not_own silent engine earlier (Given origin c) h = absurd h
 found_not_own silent engine earlier (Learned c hints) h = refl
 found_not_own silent engine earlier (Answer c hints) h = refl
-found_not_own silent engine earlier (Round row values j) h = absurd h
-found_not_own silent engine earlier (Begun live) h = absurd h
+found_not_own silent engine earlier _ h = absurd h
 
 found_own_given : (silent : Bool) (f : Dqbf) (engine : Engine) (group : ℕ) (earlier : List Entry) (e : Entry) →
     IsSearchEntry silent earlier e → IsOwnGiven f engine group earlier e
-found_own_given silent f engine group earlier (Named v n) h = absurd h
-found_own_given silent f engine group earlier (Given origin c) h = absurd h
 found_own_given silent f engine group earlier (Learned c hints) h = tt
 found_own_given silent f engine group earlier (Answer c hints) h = tt
-found_own_given silent f engine group earlier (Round row values j) h = absurd h
-found_own_given silent f engine group earlier (Begun live) h = absurd h
+found_own_given silent f engine group earlier _ h = absurd h
 
 -- a search names nothing, gives nothing, and adds no round
 pub found_names : (silent : Bool) (more old : List Entry) (v : ℕ) → EachOf (IsSearchEntry silent) more old →
     name_of (more ++ old) v ≡ name_of old v
 found_names silent [] old v h = refl
-found_names silent (Named w n ∷ more) old v h = absurd h.0
-found_names silent (Given origin c ∷ more) old v h = absurd h.0
 found_names silent (Learned c hints ∷ more) old v h = found_names silent more old v h.1
 found_names silent (Answer c hints ∷ more) old v h = found_names silent more old v h.1
-found_names silent (Round row values j ∷ more) old v h = absurd h.0
-found_names silent (Begun live ∷ more) old v h = absurd h.0
+found_names silent (_ ∷ more) old v h = absurd h.0
 
 pub found_rows : (silent : Bool) (more old : List Entry) → EachOf (IsSearchEntry silent) more old →
     rows_of (more ++ old) ≡ rows_of old
 found_rows silent [] old h = refl
-found_rows silent (Named w n ∷ more) old h = absurd h.0
-found_rows silent (Given origin c ∷ more) old h = absurd h.0
 found_rows silent (Learned c hints ∷ more) old h = found_rows silent more old h.1
 found_rows silent (Answer c hints ∷ more) old h = found_rows silent more old h.1
-found_rows silent (Round row values j ∷ more) old h = absurd h.0
-found_rows silent (Begun live ∷ more) old h = absurd h.0
+found_rows silent (_ ∷ more) old h = absurd h.0
 
 pub found_givens : (silent : Bool) (more old : List Entry) (origin : Origin) (c : List Literal) →
     EachOf (IsSearchEntry silent) more old → Contains (more ++ old) (Given origin c) → Contains old (Given origin c)
@@ -140,12 +121,7 @@ one_of_groups (g ∷ gs) l h = search (arith, or_cases, only_selector, (one_of_g
 
 instance_of : (origin : Origin) → origin_engine origin ≡ instances → IsInstance origin
 instance_of (Instance k j) h = tt
-instance_of (Gate v i) h = cc
-instance_of (Fault j i leaf) h = cc
-instance_of (Copy side j) h = cc
-instance_of (Link v i) h = cc
-instance_of (TermGate v i) h = cc
-instance_of (Differ y leaf part) h = cc
+instance_of _ h = cc
 
 -- the literals that switch groups on, by the groups' numbers
 pub switches_are : (t : TableState) (more : List Group) (entries : List Entry) → All (IsMade entries) more →

@@ -6,7 +6,7 @@ use Rattle.dq_lits.specs.Literal.{Literal}
 use Rattle.dq_lits.specs.Formula.{Dqbf, Existential}
 use Rattle.dq_lits.specs.Expansion.{universal_literal_true}
 use Rattle.hint_log.specs.Conditions.{AreLogged}
-use Rattle.hint_log.specs.Entries.{Entry, Named, Given, Learned, Answer, Round, Begun, name_of}
+use Rattle.hint_log.specs.Entries.{Entry, Named, Given, name_of}
 use Rattle.hint_log.specs.Naming.{arbiter}
 use Rattle.hint_log.specs.declared.names.Name.{Name}
 use Rattle.hint_log.specs.declared.names.Name.TheVariants.{Pair}
@@ -23,10 +23,7 @@ pub pair_own : (es : List Entry) (v k y : ℕ) → name_of es v ≡ Some (Pair k
 pair_own [] v k y h = h
 pair_own (Named w m ∷ es) v k y h = search (arith, (pair_own es v k y))
 pair_own (Given o c ∷ es) v k y h = search (arith, (pair_own es v k y h))
-pair_own (Learned c hs ∷ es) v k y h = pair_own es v k y h
-pair_own (Answer c hs ∷ es) v k y h = pair_own es v k y h
-pair_own (Round r b j ∷ es) v k y h = pair_own es v k y h
-pair_own (Begun live ∷ es) v k y h = pair_own es v k y h
+pair_own (_ ∷ es) v k y h = pair_own es v k y h
 
 -- what has no name has none in the part
 pub unnamed_own : (es : List Entry) (v : ℕ) → AreLogged es → name_of es v ≡ None → name_of (part instances es) v ≡ None
