@@ -37,10 +37,8 @@ stands_declared f graph es _ _ (not_gate g l stands) x is =
 pub leaf_declared : (f : Dqbf) (graph : AigGraph) (es : List Entry) (n : Node) (output : Leaf) →
     IsLeafFor f graph es n output → IsLeafDeclared f es output
 leaf_declared f graph es (Constant b) output is = subst (IsLeafDeclared f es) (sym is) tt
-leaf_declared f graph es (Input i negated) output (l, is, stands) =
-    subst (IsLeafDeclared f es) (sym is) (stands_declared f graph es (Input i negated) l stands)
-leaf_declared f graph es (Gate g negated) output (l, is, stands) =
-    subst (IsLeafDeclared f es) (sym is) (stands_declared f graph es (Gate g negated) l stands)
+leaf_declared f graph es e output (l, is, stands) =
+    subst (IsLeafDeclared f es) (sym is) (stands_declared f graph es e l stands)
 
 -- what names no gate and no copy leaves it so
 pub copies_before : (f : Dqbf) (old new : List Entry) →

@@ -14,7 +14,7 @@ use Rattle.hint_log.specs.declared.names.Name.TheVariants.{Selector, Copy as Cop
 use Rattle.hint_log.specs.declared.origins.Leaf.{Leaf}
 use Rattle.hint_log.specs.declared.origins.Leaf.TheVariants.{Constant, Literal as LeafLiteral}
 use Rattle.hint_log.specs.declared.origins.Origin.{Origin}
-use Rattle.hint_log.specs.declared.origins.Origin.TheVariants.{Instance, Gate, Fault, Copy, Link, TermGate, Differ}
+use Rattle.hint_log.specs.declared.origins.Origin.TheVariants.{TermGate, Differ}
 use Rattle.log_laws.specs.Engines.{copies, IsAddedBy}
 use Rattle.log_laws.proofs.LargerLogs.{grown_by, grown_then}
 use Rattle.log_laws.proofs.Kept.{NamesStay, name_stays_by, name_cases}
@@ -147,13 +147,8 @@ module _ (g : Group) (d : Difference) (old mid new : ProofLog) (made : IsMade ol
   second_stopped is = subst (λ (l : ProofLog). AreDiffering (group_variable g) d old l) (sym is) first_put
 
 differs_is_proof : (y : ℕ) (output : Leaf) (o : Origin) → IsDifferenceOf y output o → is_proof_origin y o ≡ true
-differs_is_proof y output (Instance k j) is = absurd is
-differs_is_proof y output (Gate w i) is = absurd is
-differs_is_proof y output (Fault j i out) is = absurd is
-differs_is_proof y output (Copy s j) is = absurd is
-differs_is_proof y output (Link s j) is = absurd is
-differs_is_proof y output (TermGate w i) is = absurd is
 differs_is_proof y output (Differ x out part) is = eq-eqb x y is.0
+differs_is_proof y output _ is = absurd is
 
 -- a new group, and what is given to it
 module _ (g : ℕ) (d : Difference) (old mid new : ProofLog) (logged : AreLogged old.entries)

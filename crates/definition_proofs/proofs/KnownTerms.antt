@@ -14,7 +14,7 @@ use Rattle.hint_log.specs.Entries.{Entry, Named, Given, ProofLog, with_entry, na
 use Rattle.hint_log.specs.declared.names.Name.{Name}
 use Rattle.hint_log.specs.declared.names.Name.TheVariants.{Selector, Term}
 use Rattle.hint_log.specs.declared.origins.Origin.{Origin}
-use Rattle.hint_log.specs.declared.origins.Origin.TheVariants.{TermGate, Instance, Gate, Fault, Copy, Link, Differ}
+use Rattle.hint_log.specs.declared.origins.Origin.TheVariants.{TermGate}
 use Rattle.hint_log.proofs.NamedEntries.{each_one}
 use Rattle.log_laws.proofs.Kept.{NamesStay, name_stays_by, name_cases, unnamed_earlier, some_stays}
 use Rattle.oracle.specs.Calls.{IsMade}
@@ -74,13 +74,8 @@ proof_then f group y a b c first second = record {
 
 pub gate_is : (v y : ℕ) (o : Origin) → is_gate_of v o ≡ true →
     (is_proof_origin y o ≡ true) × (is_term_gate o ≡ true) × ((i : ℕ) (w : ℕ) → o ≡ TermGate w i → w ≡ v)
-gate_is v y (Instance k j) h = cc
-gate_is v y (Gate w i) h = cc
-gate_is v y (Fault j i leaf) h = cc
-gate_is v y (Copy s j) h = cc
-gate_is v y (Link s j) h = cc
 gate_is v y (TermGate w i) h = (refl, refl, λ k u is. (let same : w ≡ u = cc in sym same ∙ eqb-true w v h))
-gate_is v y (Differ x out part) h = cc
+gate_is v y _ h = cc
 
 -- clauses of gates in the standing group
 pub proof_gives : (f : Dqbf) (group v y : ℕ) (old new : ProofLog) → Gives f (is_gate_of v) group old new →

@@ -1,4 +1,5 @@
--- Values of the first copies under which gates over them have their values: a definition has the existential's.
+-- Values of the first copies under which gates over them have their values: a definition has the
+-- existential's.
 use Rattle.std.proofs.Common.{◌≡◌, ℕ, Bool, true, false, not, ◌||◌, ◌&&◌, List, [], ◌∷◌, Some, refl, sym, ◌∙◌, ap, arith}
 use Rattle.std.specs.List.{Contains}
 use Rattle.std.proofs.lemmas.List.Elements.{Contains-get_or}
@@ -131,10 +132,7 @@ module _ (f : Dqbf) (graph : AigGraph) (p : Definability) (terms : Terms) (es : 
   leaf_is_value : (n : Node) (leaf : Leaf) → IsLeafFor f graph es n leaf →
       leaf_value values leaf ≡ node_value graph inputs n
   leaf_is_value (Constant b) leaf is = ap (leaf_value values) is
-  leaf_is_value (Input i negated) leaf (l, is, stands) =
-      ap (leaf_value values) is ∙ literal_value (Input i negated) l stands
-  leaf_is_value (Gate g negated) leaf (l, is, stands) =
-      ap (leaf_value values) is ∙ literal_value (Gate g negated) l stands
+  leaf_is_value e leaf (l, is, stands) = ap (leaf_value values) is ∙ literal_value e l stands
 
   module _ (d : Difference) (group : ℕ) (node : Node) (difference : IsDifference es d)
       (given : HasDifference es group d) (leaf : IsLeafFor f graph es node d.output)

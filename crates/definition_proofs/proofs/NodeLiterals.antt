@@ -1,5 +1,5 @@
--- Literals that stand for nodes: they stay as names do, stand on first copies or gates over them, and reach what the
--- node reads.
+-- Literals that stand for nodes: they stay as names do, stand on first copies or gates over them,
+-- and reach what the node reads.
 use Rattle.std.proofs.Common.{◌≡◌, ◌<◌, ℕ, Bool, true, false, ◌⊎◌, inl, inr, List, ◌++◌, map, length, Some, slice_get, refl, sym, ◌∙◌, ap, subst, arith, ◌≢◌, ◌≤◌, ◌==◌, cond, get_or, IsSome, ◌-◌}
 use Rattle.std.specs.List.{Contains}
 use Rattle.std.proofs.lemmas.List.Elements.{Contains-append_left, Contains-append_right}

@@ -8,7 +8,7 @@ use Rattle.dq_lits.specs.Formula.{Dqbf, IsWellFormed, declared}
 use Rattle.dq_lits.proofs.SignedLiterals.{as_positive}
 use Rattle.dq_lits.proofs.TrueClauses.{positive_true}
 use Rattle.aig_graph.specs.declared.nodes.Node.{Node}
-use Rattle.aig_graph.specs.declared.nodes.Node.TheVariants.{Constant, Input, Gate}
+use Rattle.aig_graph.specs.declared.nodes.Node.TheVariants.{Constant}
 use Rattle.aig_graph.specs.Graph.{AigGraph, node_support}
 use Rattle.defining_nodes.specs.Definitions.{input_variable}
 use Rattle.hint_log.specs.Conditions.{AreLogged}
@@ -19,7 +19,7 @@ use Rattle.hint_log.specs.declared.names.Name.{Name}
 use Rattle.hint_log.specs.declared.names.Name.TheVariants.{Selector, Copy as CopyOf}
 use Rattle.hint_log.specs.declared.origins.Leaf.{Leaf}
 use Rattle.hint_log.specs.declared.origins.Origin.{Origin}
-use Rattle.hint_log.specs.declared.origins.Origin.TheVariants.{Instance, Gate as GateOrigin, Fault, Copy, Link, TermGate, Differ}
+use Rattle.hint_log.specs.declared.origins.Origin.TheVariants.{Copy, TermGate, Differ}
 use Rattle.hint_log.proofs.NamedEntries.{each_one}
 use Rattle.log_laws.proofs.Found.{named_variable}
 use Rattle.log_laws.proofs.Kept.{NamesStay}
@@ -67,49 +67,32 @@ own_differs f group y old new grew x part output c inside = elim (grew.givens (D
 pub leaf_stays : (f : Dqbf) (graph : AigGraph) (old new : List Entry) → NamesStay old new → (n : Node) (output : Leaf) →
     IsLeafFor f graph old n output → IsLeafFor f graph new n output
 leaf_stays f graph old new stay (Constant b) output is = is
-leaf_stays f graph old new stay (Input i negated) output (l, is, stands) = search (arith, stands_still)
-leaf_stays f graph old new stay (Gate g negated) output (l, is, stands) = search (arith, stands_still)
+leaf_stays f graph old new stay _ output (l, is, stands) = search (arith, stands_still)
 
 leaf_on_term : (f : Dqbf) (graph : AigGraph) (es : List Entry) (n : Node) (output : Leaf) →
     IsLeafFor f graph es n output → IsTermLeaf es output
 leaf_on_term f graph es (Constant b) output is = subst (IsTermLeaf es) (sym is) tt
-leaf_on_term f graph es (Input i negated) output (l, is, stands) = search (arith, on_term)
-leaf_on_term f graph es (Gate g negated) output (l, is, stands) = search (arith, on_term)
+leaf_on_term f graph es _ output (l, is, stands) = search (arith, on_term)
 
 pub leaf_reads : (f : Dqbf) (graph : AigGraph) (es : List Entry) (n : Node) (output : Leaf) →
     IsLeafFor f graph es n output → (x : ℕ) → TermLeafReads es output x →
     Contains (map (input_variable f) (node_support graph n)) x
 leaf_reads f graph es (Constant b) output is x reads = search arith
-leaf_reads f graph es (Input i negated) output (l, is, stands) x reads = search (arith, reads_support)
-leaf_reads f graph es (Gate g negated) output (l, is, stands) x reads = search (arith, reads_support)
+leaf_reads f graph es _ output (l, is, stands) x reads = search (arith, reads_support)
 
 -- clauses of the three groups
 copy_is_right : (y : ℕ) (output : Leaf) (o : Origin) → is_copy_of 1 o ≡ true → IsDefinitionGiven y output o
-copy_is_right y output (Instance k j) h = cc
-copy_is_right y output (GateOrigin v i) h = cc
-copy_is_right y output (Fault j i out) h = cc
 copy_is_right y output (Copy side j) h = eqb-true side 1 h
-copy_is_right y output (Link v i) h = cc
-copy_is_right y output (TermGate v i) h = cc
-copy_is_right y output (Differ x out part) h = cc
+copy_is_right y output _ h = cc
 
 gate_is_right : (y : ℕ) (output : Leaf) (o : Origin) → is_term_gate o ≡ true → IsDefinitionGiven y output o
-gate_is_right y output (Instance k j) h = cc
-gate_is_right y output (GateOrigin v i) h = cc
-gate_is_right y output (Fault j i out) h = cc
-gate_is_right y output (Copy side j) h = cc
-gate_is_right y output (Link v i) h = cc
 gate_is_right y output (TermGate v i) h = tt
-gate_is_right y output (Differ x out part) h = cc
+gate_is_right y output _ h = cc
 
 difference_is_right : (y : ℕ) (output : Leaf) (o : Origin) → IsDifferenceOf y output o → IsDefinitionGiven y output o
-difference_is_right y output (Instance k j) h = h
-difference_is_right y output (GateOrigin v i) h = h
-difference_is_right y output (Fault j i out) h = h
 difference_is_right y output (Copy side j) h = absurd h
-difference_is_right y output (Link v i) h = h
 difference_is_right y output (TermGate v i) h = absurd h
-difference_is_right y output (Differ x out part) h = h
+difference_is_right y output _ h = h
 
 one_of_two : (a b g : Group) → Contains (a ∷ b ∷ []) g → (a ≡ g) ⊎ (b ≡ g)
 one_of_two a b g (zero, lt, at) = inl at

@@ -14,7 +14,7 @@ use Rattle.hint_log.specs.Growth.{Grew}
 use Rattle.hint_log.specs.declared.names.Name.TheVariants.{Selector}
 use Rattle.hint_log.specs.declared.origins.Leaf.{Leaf}
 use Rattle.hint_log.specs.declared.origins.Origin.{Origin}
-use Rattle.hint_log.specs.declared.origins.Origin.TheVariants.{Instance, Gate, Fault, Copy, Link, TermGate, Differ}
+use Rattle.hint_log.specs.declared.origins.Origin.TheVariants.{Copy, TermGate, Differ}
 use Rattle.log_laws.specs.Engines.{copies, IsAddedBy, origin_engine}
 use Rattle.log_laws.proofs.LargerLogs.{grown_by}
 use Rattle.oracle.specs.Calls.{IsMade, IsLearnedEntry, IsRefutedUnder, assumed}
@@ -53,13 +53,10 @@ negated_is (positive w) v is = cc
 negated_is (negative w) v is = let same : positive w ≡ positive v = is in let number : w ≡ v = cc in ap negative number
 
 given_is_copies : (y : ℕ) (leaf : Leaf) (o : Origin) → IsDefinitionGiven y leaf o → origin_engine o ≡ copies
-given_is_copies y leaf (Instance k j) is = absurd is
-given_is_copies y leaf (Gate v i) is = absurd is
-given_is_copies y leaf (Fault j i out) is = absurd is
 given_is_copies y leaf (Copy side j) is = refl
-given_is_copies y leaf (Link v i) is = absurd is
 given_is_copies y leaf (TermGate v i) is = refl
 given_is_copies y leaf (Differ x out part) is = refl
+given_is_copies y leaf _ is = absurd is
 
 -- a search that ends with an answer
 module _ (implied : LinesAreImplied) (y : ℕ) (leaf : Leaf) (active : List Group) (old new : ProofLog) (id : ℕ)

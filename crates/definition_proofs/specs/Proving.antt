@@ -16,8 +16,9 @@ use Rattle.definition_proofs.specs.Leaves.{IsLeafFor}
 use Rattle.definition_proofs.specs.declared.searching.Proved.{Proved}
 use Rattle.definition_proofs.specs.declared.terms.Terms.{Terms}
 
--- the copies of the matrix, with copies of all variables, and the gates over the first one, which read
--- copies of declared variables, stand in the log, in groups of their own, with room for clauses more
+-- the copies of the matrix, with copies of all variables, and the gates over the first one, which
+-- read copies of declared variables, stand in the log, in groups of their own, with room for
+-- clauses more
 pub record AreBeside (f : Dqbf) (p : Definability) (t : Terms) (entries : List Entry) : Type 0 where
   pub definability : IsDefinability f p entries
   pub whole : IsWhole f p
