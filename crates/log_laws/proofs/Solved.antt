@@ -1,4 +1,5 @@
--- An answer that rests on gates and on faults shows that every clause is true with the leaves' values.
+-- An answer that rests on gates and on faults shows that every clause is true with the leaves'
+-- values.
 use Rattle.std.proofs.Common.{◌≡◌, ℕ, zero, suc, ◌+◌, ◌<◌, ◌==◌, Bool, true, false, cond, not, ◌||◌, ◌&&◌, inl, inr, List, [], ◌∷◌, ◌++◌, map, length, get_or, Option, None, Some, refl, sym, ◌∙◌, ap, subst, arith, append_assoc}
 use Rattle.std.specs.List.{All, Contains, range_with_len}
 use Rattle.std.specs.Option.{option_and_then}
