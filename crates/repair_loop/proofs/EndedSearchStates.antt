@@ -3,11 +3,11 @@ use Rattle.std.proofs.Common.{◌≡◌, ℕ, Bool, List, [], ◌∷◌, ◌++�
 use Rattle.std.specs.List.{Contains}
 use Rattle.dq_lits.specs.Expansion.{IsExpansionUnsatisfiable}
 use Rattle.dq_lits.specs.Formula.{Dqbf}
-use Rattle.hint_log.specs.Entries.{Entry, Named, Given, Learned, Answer, Round, Begun, ProofLog, beginnings_of}
+use Rattle.hint_log.specs.Entries.{Entry, Given, Round, Begun, ProofLog, beginnings_of}
 use Rattle.hint_log.specs.Growth.{Each}
 use Rattle.hint_log.specs.Naming.{rows_of}
 use Rattle.hint_log.specs.ProductiveSession.{IsProductiveSession}
-use Rattle.hint_log.specs.declared.origins.Origin.TheVariants.{Instance, Gate, Fault, Copy, Link, TermGate, Differ}
+use Rattle.hint_log.specs.declared.origins.Origin.TheVariants.{Fault}
 use Rattle.oracle.specs.Searched.{IsSearched}
 use Rattle.aig_graph.specs.Graph.{AigGraph}
 use Rattle.dq_session.specs.Databases.{DatabaseState, all_of, frames_of, live_of, now_of}
@@ -22,21 +22,13 @@ use Rattle.repair_loop.proofs.LogGrowth.{some_begun, some_live}
 since_searched : (more : List Entry) (live : List ℕ) (old : List Entry) → beginnings_of more ≡ 0 →
     Each IsOfSearch old → Each IsOfSearch (more ++ Begun live ∷ old)
 since_searched [] live old none tried = (tt, tried)
-since_searched (Named v n ∷ more) live old none tried = (tt, since_searched more live old none tried)
-since_searched (Given (Instance k j) c ∷ more) live old none tried = (tt, since_searched more live old none tried)
-since_searched (Given (Gate v i) c ∷ more) live old none tried = (tt, since_searched more live old none tried)
 since_searched (Given (Fault j i leaf) c ∷ more) live old none tried =
     (some_live more live old, since_searched more live old none tried)
-since_searched (Given (Copy side j) c ∷ more) live old none tried = (tt, since_searched more live old none tried)
-since_searched (Given (Link v i) c ∷ more) live old none tried = (tt, since_searched more live old none tried)
-since_searched (Given (TermGate v i) c ∷ more) live old none tried = (tt, since_searched more live old none tried)
-since_searched (Given (Differ y leaf part) c ∷ more) live old none tried =
-    (tt, since_searched more live old none tried)
-since_searched (Learned c hints ∷ more) live old none tried = (tt, since_searched more live old none tried)
-since_searched (Answer c hints ∷ more) live old none tried = (tt, since_searched more live old none tried)
 since_searched (Round row values j ∷ more) live old none tried =
     (some_live more live old, since_searched more live old none tried)
 since_searched (Begun numbers ∷ more) live old none tried = absurd (omega (arith, none))
+since_searched (Given _ c ∷ more) live old none tried = (tt, since_searched more live old none tried)
+since_searched (_ ∷ more) live old none tried = (tt, since_searched more live old none tried)
 
 module _ (grouped : SearchStatesAreGrouped) (f : Dqbf) (b after : DatabaseState) (d e : SearchState) (ready : Bool) (graph more : AigGraph)
     (old new : ProofLog) (r : CanBeginSearch b d graph old.entries) (begun : HasBegun (live_of b) old.entries new.entries)

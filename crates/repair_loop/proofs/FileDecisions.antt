@@ -4,7 +4,7 @@ use Rattle.std.specs.List.{Contains}
 use Rattle.dq_lits.specs.Expansion.{IsExpansionUnsatisfiable}
 use Rattle.dq_lits.specs.Formula.{Dqbf}
 use Rattle.hint_log.specs.Deciding.{IsUndecided}
-use Rattle.hint_log.specs.Entries.{Entry, Named, Given, Learned, Answer, Round, Begun, ProofLog, beginnings_of}
+use Rattle.hint_log.specs.Entries.{Entry, Begun, ProofLog, beginnings_of}
 use Rattle.hint_log.specs.Growth.{Each}
 use Rattle.hint_log.specs.Live.{live_numbers, formula_of}
 use Rattle.hint_log.specs.Naming.{rows_of}
@@ -24,12 +24,8 @@ use Rattle.repair_loop.proofs.WholeSearches.{IsWhole, plainly, productive, none_
 whole_since : (f : Dqbf) (live : List ℕ) → formula_of f live ≡ f → (old : List Entry) → live_numbers old ≡ None →
     (more : List Entry) → beginnings_of more ≡ 0 → Each (IsWhole f) (more ++ Begun live ∷ old)
 whole_since f live whole old none [] few = (whole, none_whole f old none)
-whole_since f live whole old none (Named v n ∷ more) few = (tt, whole_since f live whole old none more few)
-whole_since f live whole old none (Given origin c ∷ more) few = (tt, whole_since f live whole old none more few)
-whole_since f live whole old none (Learned c hints ∷ more) few = (tt, whole_since f live whole old none more few)
-whole_since f live whole old none (Answer c hints ∷ more) few = (tt, whole_since f live whole old none more few)
-whole_since f live whole old none (Round row values j ∷ more) few = (tt, whole_since f live whole old none more few)
 whole_since f live whole old none (Begun numbers ∷ more) few = absurd (omega (arith, few))
+whole_since f live whole old none (_ ∷ more) few = (tt, whole_since f live whole old none more few)
 
 module _ (f : Dqbf) (b : DatabaseState) (is_begun : b ≡ begun f b.table) (old new : List Entry)
     (none : live_numbers old ≡ None) where

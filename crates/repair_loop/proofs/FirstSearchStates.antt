@@ -14,7 +14,7 @@ use Rattle.hint_log.specs.Naming.{rows_of}
 use Rattle.hint_log.specs.ProductiveLog.{MatchesOrigin, IsProductiveLog, fault_groups}
 use Rattle.hint_log.specs.ProductiveSession.{MatchesLiveOrigin}
 use Rattle.hint_log.specs.declared.origins.Origin.{Origin}
-use Rattle.hint_log.specs.declared.origins.Origin.TheVariants.{Instance, Gate, Fault, Copy, Link, TermGate, Differ}
+use Rattle.hint_log.specs.declared.origins.Origin.TheVariants.{Gate, Fault}
 use Rattle.log_laws.specs.Engines.{Engine, circuits, instances, copies, same_engine, is_own, HasNone, IsAddedBy, EnginesLeaveRest}
 use Rattle.log_laws.specs.Sessions.{IsAddedLive, EnginesLeaveSessions, PlainLogsAreSessions}
 use Rattle.oracle.specs.Searched.{IsSearched}
@@ -39,26 +39,15 @@ use Rattle.repair_loop.proofs.WholeSearches.{IsPlain, IsFirstLog, first_log, sti
 -- where no search began, what is right for one formula is right in a session
 live_origin : (f : Dqbf) (earlier : List Entry) (origin : Origin) (c : List Literal) → live_numbers earlier ≡ None →
     MatchesOrigin f earlier (Given origin c) → MatchesLiveOrigin f earlier (Given origin c)
-live_origin f earlier (Instance k j) c none is = is
-live_origin f earlier (Gate v i) c none is = is
 live_origin f earlier (Fault j i leaf) c none is = search arith
-live_origin f earlier (Copy side j) c none is = is
-live_origin f earlier (Link v i) c none is = is
-live_origin f earlier (TermGate v i) c none is = is
-live_origin f earlier (Differ y leaf part) c none is = is
+live_origin f earlier _ c none is = is
 
 still_none : (f : Dqbf) (engine : Engine) (group : ℕ) (start more old : List Entry) →
     EachOf (IsAddedBy f engine group true start) more old → live_numbers old ≡ None → live_numbers (more ++ old) ≡ None
 still_none f engine group start [] old each none = none
-still_none f engine group start (Named v n ∷ more) old each none = still_none f engine group start more old each.1 none
-still_none f engine group start (Given origin c ∷ more) old each none =
-    still_none f engine group start more old each.1 none
-still_none f engine group start (Learned c hints ∷ more) old each none =
-    still_none f engine group start more old each.1 none
-still_none f engine group start (Answer c hints ∷ more) old each none =
-    still_none f engine group start more old each.1 none
 still_none f engine group start (Round row values j ∷ more) old each none = absurd each.0
 still_none f engine group start (Begun live ∷ more) old each none = absurd each.0
+still_none f engine group start (_ ∷ more) old each none = still_none f engine group start more old each.1 none
 
 live_each : (f : Dqbf) (engine : Engine) (group : ℕ) (start more old : List Entry) → live_numbers old ≡ None →
     EachOf (IsAddedBy f engine group true start) more old →
@@ -72,8 +61,7 @@ live_each f engine group start (Learned c hints ∷ more) old none each =
     (tt, live_each f engine group start more old none each.1)
 live_each f engine group start (Answer c hints ∷ more) old none each =
     search (arith, still_none, (live_each f engine group start more old none each.1))
-live_each f engine group start (Round row values j ∷ more) old none each = absurd each.0
-live_each f engine group start (Begun live ∷ more) old none each = absurd each.0
+live_each f engine group start (_ ∷ more) old none each = absurd each.0
 
 pub live_by : (f : Dqbf) (engine : Engine) (group : ℕ) (old new : ProofLog) → live_numbers old.entries ≡ None →
     Grew (IsAddedBy f engine group true old.entries) old new →
@@ -88,14 +76,11 @@ only_instances : (f : Dqbf) (other : Engine) → same_engine other instances ≡
     EachOf (IsAddedLive f instances [] true start) more [] → (e : Entry) → Contains (more ++ []) e →
     is_own other e ≡ true → ⊥
 only_instances f other differ start [] each e (k, below, is) own = absurd (omega (arith, below))
-only_instances f other differ start (Named v n ∷ more) each e (zero, below, is) own = search arith
-only_instances f other differ start (Given origin c ∷ more) each e (zero, below, is) own = search arith
-only_instances f other differ start (Learned c hints ∷ more) each e (zero, below, is) own = search arith
-only_instances f other differ start (Answer c hints ∷ more) each e (zero, below, is) own = search arith
 only_instances f other differ start (Round row values j ∷ more) each e (zero, below, is) own = absurd each.0
 only_instances f other differ start (Begun live ∷ more) each e (zero, below, is) own = absurd each.0
 only_instances f other differ start (x ∷ more) each e (suc k, below, is) own =
     only_instances f other differ start more each.1 e (k, omega (arith, below), is) own
+only_instances f other differ start (_ ∷ more) each e (zero, below, is) own = search arith
 
 pub first_has_none : (f : Dqbf) (other : Engine) → same_engine other instances ≡ false → (b : DatabaseState)
     (es : List Entry) → IsFirstDatabase f b es → HasNone other es
@@ -110,19 +95,11 @@ first_no_faults f b es first =
 
 -- no group has faults, so no fault was given, and no round came
 no_groups_before : (e : Entry) (es : List Entry) → fault_groups (e ∷ es) ≡ [] → fault_groups es ≡ []
-no_groups_before (Named v n) es none = none
-no_groups_before (Given (Instance k j) c) es none = none
 no_groups_before (Given (Gate v i) c) es none = none
 no_groups_before (Given (Fault j i leaf) []) es none = none
 no_groups_before (Given (Fault j i leaf) (l ∷ c)) es none = search arith
-no_groups_before (Given (Copy side j) c) es none = none
-no_groups_before (Given (Link v i) c) es none = none
-no_groups_before (Given (TermGate v i) c) es none = none
-no_groups_before (Given (Differ y leaf part) c) es none = none
-no_groups_before (Learned c hints) es none = none
-no_groups_before (Answer c hints) es none = none
-no_groups_before (Round row values j) es none = none
-no_groups_before (Begun live) es none = none
+no_groups_before (Given _ c) es none = none
+no_groups_before _ es none = none
 
 no_fault_given : (j i : ℕ) (leaf : _) (l : Literal) (c : List Literal) (es : List Entry) →
     fault_groups (Given (Fault j i leaf) (l ∷ c) ∷ es) ≡ [] → ⊥
@@ -134,26 +111,18 @@ not_nil (y ∷ xs) x is = cc
 
 given_untried : (f : Dqbf) (es : List Entry) (origin : Origin) (c : List Literal) →
     fault_groups (Given origin c ∷ es) ≡ [] → MatchesOrigin f es (Given origin c) → IsOfSearch es (Given origin c)
-given_untried f es (Instance k j) c none is = tt
-given_untried f es (Gate v i) c none is = tt
 given_untried f es (Fault j i leaf) c none is = search (arith, no_fault_given)
-given_untried f es (Copy side j) c none is = tt
-given_untried f es (Link v i) c none is = tt
-given_untried f es (TermGate v i) c none is = tt
-given_untried f es (Differ y leaf part) c none is = tt
+given_untried f es _ c none is = tt
 
 pub untried : (f : Dqbf) (es : List Entry) → fault_groups es ≡ [] → rows_of es ≡ [] → Each (MatchesOrigin f) es →
     Each IsOfSearch es
 untried f [] none no_rows right = tt
-untried f (Named v n ∷ es) none no_rows right = (tt, untried f es none no_rows right.1)
 untried f (Given origin c ∷ es) none no_rows right = (
   given_untried f es origin c none right.0,
   untried f es (no_groups_before (Given origin c) es none) no_rows right.1,
 )
-untried f (Learned c hints ∷ es) none no_rows right = (tt, untried f es none no_rows right.1)
-untried f (Answer c hints ∷ es) none no_rows right = (tt, untried f es none no_rows right.1)
 untried f (Round row values j ∷ es) none no_rows right = absurd (not_nil (rows_of es) row no_rows)
-untried f (Begun live ∷ es) none no_rows right = (tt, untried f es none no_rows right.1)
+untried f (_ ∷ es) none no_rows right = (tt, untried f es none no_rows right.1)
 
 same_groups : (f : Dqbf) (b : DatabaseState) (es : List Entry) → IsFirstDatabase f b es → groups_of b ≡ b.table.group ∷ []
 same_groups f b es first = ap groups_of first.begun_is

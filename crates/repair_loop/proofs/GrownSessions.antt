@@ -6,7 +6,7 @@ use Rattle.std.proofs.lemmas.List.{length-append, get_or_append_left}
 use Rattle.std.proofs.lemmas.List.Elements.{All-head, All-tail}
 use Rattle.dq_lits.specs.Literal.{Literal, negative}
 use Rattle.dq_lits.specs.Formula.{Dqbf}
-use Rattle.hint_log.specs.Entries.{Entry, Named, Given, Learned, Answer, Round, Begun}
+use Rattle.hint_log.specs.Entries.{Entry, Named, Given, Round, Begun}
 use Rattle.hint_log.specs.Growth.{Each}
 use Rattle.hint_log.specs.Live.{live_numbers, with_matrix, formula_by, live_formula, AreNumbers}
 use Rattle.hint_log.specs.Naming.{numbered_from_one}
@@ -14,7 +14,7 @@ use Rattle.hint_log.specs.Origins.{IsRestOf, IsOriginsClause}
 use Rattle.hint_log.specs.ProductiveLog.{is_fault}
 use Rattle.hint_log.specs.ProductiveSession.{MatchesLiveOrigin, RefutesNewLiveRow, FollowsLiveModel, AreGroupedByFrames, IsProductiveSession, frame_of}
 use Rattle.hint_log.specs.declared.origins.Origin.{Origin}
-use Rattle.hint_log.specs.declared.origins.Origin.TheVariants.{Instance, Gate, Fault, Copy, Link, TermGate, Differ}
+use Rattle.hint_log.specs.declared.origins.Origin.TheVariants.{Instance, Fault, Copy, Differ}
 use Rattle.hint_log.proofs.NamedEntries.{live_are_numbers, each_one, numbered_low}
 use Rattle.dq_session.proofs.AddedClauses.{numbered_more}
 use Rattle.repair_loop.specs.SearchStates.{IsOfSearch}
@@ -59,12 +59,10 @@ module _ (all : Dqbf) (more : List (List Literal)) where
   rest_stays : (earlier : List Entry) (group : ℕ) (origin : Origin) (rest : List Literal) → is_fault origin ≡ false →
       IsRestOf all earlier group origin rest → IsRestOf longer earlier group origin rest
   rest_stays earlier group (Instance k j) rest other is = search (arith, numbered_more)
-  rest_stays earlier group (Gate v i) rest other is = is
   rest_stays earlier group (Fault j i leaf) rest other is = cc
   rest_stays earlier group (Copy side j) rest other is = search (arith, numbered_more)
-  rest_stays earlier group (Link v i) rest other is = is
-  rest_stays earlier group (TermGate v i) rest other is = is
   rest_stays earlier group (Differ y leaf part) rest other is = search arith
+  rest_stays earlier group _ rest other is = is
 
   no_leaf : (origin : Origin) (j i : ℕ) (leaf : _) → is_fault origin ≡ false → origin ≡ Fault j i leaf → ⊥
   no_leaf origin j i leaf other same = let is : is_fault origin ≡ is_fault (Fault j i leaf) = ap is_fault same in cc
@@ -76,13 +74,9 @@ module _ (all : Dqbf) (more : List (List Literal)) where
   given_stays : (earlier : List Entry) (origin : Origin) (c : List Literal) → Each (MatchesLiveOrigin all) earlier →
       IsOfSearch earlier (Given origin c) → MatchesLiveOrigin all earlier (Given origin c) →
       MatchesLiveOrigin longer earlier (Given origin c)
-  given_stays earlier (Instance k j) c before tried is = origin_stays earlier (Instance k j) c refl is
-  given_stays earlier (Gate v i) c before tried is = origin_stays earlier (Gate v i) c refl is
   given_stays earlier (Fault j i leaf) c before tried is = search (arith, same_formula)
-  given_stays earlier (Copy side j) c before tried is = origin_stays earlier (Copy side j) c refl is
-  given_stays earlier (Link v i) c before tried is = origin_stays earlier (Link v i) c refl is
-  given_stays earlier (TermGate v i) c before tried is = origin_stays earlier (TermGate v i) c refl is
   given_stays earlier (Differ y leaf part) c before tried is = search (arith, origin_stays)
+  given_stays earlier e c before tried is = origin_stays earlier e c refl is
 
   numbers_stay : (live : List ℕ) → AreNumbers all live → AreNumbers longer live
   numbers_stay live are = record {
@@ -96,32 +90,22 @@ module _ (all : Dqbf) (more : List (List Literal)) where
   origins_stay [] tried given = tt
   origins_stay (Named v n ∷ es) tried given = (given.0, origins_stay es tried.1 given.1)
   origins_stay (Given origin c ∷ es) tried given = search (arith, given_stays, (origins_stay es tried.1 given.1))
-  origins_stay (Learned c hints ∷ es) tried given = (tt, origins_stay es tried.1 given.1)
-  origins_stay (Answer c hints ∷ es) tried given = (tt, origins_stay es tried.1 given.1)
-  origins_stay (Round row values j ∷ es) tried given = (tt, origins_stay es tried.1 given.1)
   origins_stay (Begun live ∷ es) tried given = (numbers_stay live given.0, origins_stay es tried.1 given.1)
+  origins_stay (_ ∷ es) tried given = (tt, origins_stay es tried.1 given.1)
 
   rows_stay : (es : List Entry) → Each IsOfSearch es → Each (MatchesLiveOrigin all) es →
       Each (RefutesNewLiveRow all) es → Each (RefutesNewLiveRow longer) es
   rows_stay [] tried given rows = tt
-  rows_stay (Named v n ∷ es) tried given rows = (tt, rows_stay es tried.1 given.1 rows.1)
-  rows_stay (Given origin c ∷ es) tried given rows = (tt, rows_stay es tried.1 given.1 rows.1)
-  rows_stay (Learned c hints ∷ es) tried given rows = (tt, rows_stay es tried.1 given.1 rows.1)
-  rows_stay (Answer c hints ∷ es) tried given rows = (tt, rows_stay es tried.1 given.1 rows.1)
   rows_stay (Round row values j ∷ es) tried given rows =
       search (arith, same_formula, (rows_stay es tried.1 given.1 rows.1))
-  rows_stay (Begun live ∷ es) tried given rows = (tt, rows_stay es tried.1 given.1 rows.1)
+  rows_stay (_ ∷ es) tried given rows = (tt, rows_stay es tried.1 given.1 rows.1)
 
   models_stay : (es : List Entry) → Each IsOfSearch es → Each (MatchesLiveOrigin all) es →
       Each (FollowsLiveModel all) es → Each (FollowsLiveModel longer) es
   models_stay [] tried given models = tt
-  models_stay (Named v n ∷ es) tried given models = (tt, models_stay es tried.1 given.1 models.1)
-  models_stay (Given origin c ∷ es) tried given models = (tt, models_stay es tried.1 given.1 models.1)
-  models_stay (Learned c hints ∷ es) tried given models = (tt, models_stay es tried.1 given.1 models.1)
-  models_stay (Answer c hints ∷ es) tried given models = (tt, models_stay es tried.1 given.1 models.1)
   models_stay (Round row values j ∷ es) tried given models =
       search (arith, same_formula, (models_stay es tried.1 given.1 models.1))
-  models_stay (Begun live ∷ es) tried given models = (tt, models_stay es tried.1 given.1 models.1)
+  models_stay (_ ∷ es) tried given models = (tt, models_stay es tried.1 given.1 models.1)
 
   module _ (frames added : List ℕ) (many : length frames ≡ length all.matrix) (es : List Entry)
       (given : Each (MatchesLiveOrigin all) es) where

@@ -1,5 +1,5 @@
--- What engines add in a session: which groups get faults, what room there is for them, and what leaves a
--- checker as it is. Questions add so little that any engine may have added it.
+-- What engines add in a session: which groups get faults, what room there is for them, and what
+-- leaves a checker as it is. Questions add so little that any engine may have added it.
 use Rattle.std.proofs.Common.{◌≡◌, ◌≢◌, ℕ, zero, suc, ◌+◌, ◌-◌, ◌<◌, Bool, true, false, inl, inr, ◌⊎◌, List, [], ◌∷◌, ◌++◌, Option, None, Some, IsSome, refl, sym, ◌∙◌, ap, subst, arith}
 use Rattle.std.specs.List.{Contains}
 use Rattle.list_laws.proofs.Members.{contains_later}
@@ -11,7 +11,7 @@ use Rattle.hint_log.specs.Live.{live_numbers, live_formula, with_matrix}
 use Rattle.hint_log.specs.ProductiveLog.{MatchesOrigin, fault_groups, fault_room}
 use Rattle.hint_log.specs.ProductiveSession.{MatchesLiveOrigin}
 use Rattle.hint_log.specs.declared.origins.Origin.{Origin}
-use Rattle.hint_log.specs.declared.origins.Origin.TheVariants.{Instance, Gate, Fault, Copy, Link, TermGate, Differ}
+use Rattle.hint_log.specs.declared.origins.Origin.TheVariants.{Fault}
 use Rattle.hint_log.specs.declared.names.Name.{Name}
 use Rattle.hint_log.specs.declared.names.Name.TheVariants.{Selector}
 use Rattle.log_laws.specs.Engines.{Engine, circuits, same_engine, origin_engine, IsAddedBy}
@@ -25,25 +25,19 @@ use Rattle.known_functions.specs.Searching.{IsAsked}
 asked_formula : (f : Dqbf) (more old : List Entry) → EachOf (IsAsked f) more old →
     live_numbers (more ++ old) ≡ live_numbers old
 asked_formula f [] old each = refl
-asked_formula f (Named v n ∷ more) old each = absurd each.0
-asked_formula f (Given origin c ∷ more) old each = absurd each.0
 asked_formula f (Learned c hints ∷ more) old each = asked_formula f more old each.1
 asked_formula f (Answer c hints ∷ more) old each = asked_formula f more old each.1
-asked_formula f (Round row values j ∷ more) old each = absurd each.0
-asked_formula f (Begun live ∷ more) old each = absurd each.0
+asked_formula f (_ ∷ more) old each = absurd each.0
 
 asked_each : (all f : Dqbf) (engine : Engine) (groups : List ℕ) (start more old : List Entry) →
     f ≡ live_formula all old → EachOf (IsAsked f) more old →
     EachOf (IsAddedLive all engine groups true start) more old
 asked_each all f engine groups start [] old now each = tt
-asked_each all f engine groups start (Named v n ∷ more) old now each = absurd each.0
-asked_each all f engine groups start (Given origin c ∷ more) old now each = absurd each.0
 asked_each all f engine groups start (Learned c hints ∷ more) old now each =
     (tt, asked_each all f engine groups start more old now each.1)
 asked_each all f engine groups start (Answer c hints ∷ more) old now each =
     search (arith, asked_formula, (asked_each all f engine groups start more old now each.1))
-asked_each all f engine groups start (Round row values j ∷ more) old now each = absurd each.0
-asked_each all f engine groups start (Begun live ∷ more) old now each = absurd each.0
+asked_each all f engine groups start (_ ∷ more) old now each = absurd each.0
 
 -- what questions add, any engine may have added
 pub asked_live : (all f : Dqbf) (engine : Engine) (groups : List ℕ) (old new : ProofLog) →
@@ -54,13 +48,8 @@ asked_live all f engine groups old new now grew = search (arith, asked_each)
 no_fault : (engine : Engine) (origin : Origin) (c : List Literal) (es : List Entry) →
     same_engine engine circuits ≡ false → origin_engine origin ≡ engine →
     fault_groups (Given origin c ∷ es) ≡ fault_groups es
-no_fault engine (Instance k j) c es other own = refl
-no_fault engine (Gate v i) c es other own = refl
 no_fault engine (Fault j i leaf) c es other own = search arith
-no_fault engine (Copy side j) c es other own = refl
-no_fault engine (Link v i) c es other own = refl
-no_fault engine (TermGate v i) c es other own = refl
-no_fault engine (Differ y leaf part) c es other own = refl
+no_fault engine _ c es other own = refl
 
 module _ (all : Dqbf) (engine : Engine) (groups : List ℕ) (silent : Bool) (start old : List Entry) where
   abbrev Added : List Entry → Entry → Type 0
@@ -69,30 +58,22 @@ module _ (all : Dqbf) (engine : Engine) (groups : List ℕ) (silent : Bool) (sta
   faults_each : same_engine engine circuits ≡ false → (more : List Entry) → EachOf Added more old →
       fault_groups (more ++ old) ≡ fault_groups old
   faults_each other [] each = refl
-  faults_each other (Named v n ∷ more) each = faults_each other more each.1
   faults_each other (Given origin c ∷ more) each = search (arith, no_fault, (faults_each other more each.1))
-  faults_each other (Learned c hints ∷ more) each = faults_each other more each.1
-  faults_each other (Answer c hints ∷ more) each = faults_each other more each.1
   faults_each other (Round row values j ∷ more) each = absurd each.0
   faults_each other (Begun live ∷ more) each = absurd each.0
+  faults_each other (_ ∷ more) each = faults_each other more each.1
 
   rounds_each : (more : List Entry) → EachOf Added more old → rounds_of (more ++ old) ≡ rounds_of old
   rounds_each [] each = refl
-  rounds_each (Named v n ∷ more) each = rounds_each more each.1
-  rounds_each (Given origin c ∷ more) each = rounds_each more each.1
-  rounds_each (Learned c hints ∷ more) each = rounds_each more each.1
-  rounds_each (Answer c hints ∷ more) each = rounds_each more each.1
   rounds_each (Round row values j ∷ more) each = absurd each.0
   rounds_each (Begun live ∷ more) each = absurd each.0
+  rounds_each (_ ∷ more) each = rounds_each more each.1
 
   beginnings_each : (more : List Entry) → EachOf Added more old → beginnings_of (more ++ old) ≡ beginnings_of old
   beginnings_each [] each = refl
-  beginnings_each (Named v n ∷ more) each = beginnings_each more each.1
-  beginnings_each (Given origin c ∷ more) each = beginnings_each more each.1
-  beginnings_each (Learned c hints ∷ more) each = beginnings_each more each.1
-  beginnings_each (Answer c hints ∷ more) each = beginnings_each more each.1
   beginnings_each (Round row values j ∷ more) each = absurd each.0
   beginnings_each (Begun live ∷ more) each = absurd each.0
+  beginnings_each (_ ∷ more) each = beginnings_each more each.1
 
 pub same_faults : (all : Dqbf) (engine : Engine) (groups : List ℕ) (silent : Bool) (old new : ProofLog) →
     same_engine engine circuits ≡ false → Grew (IsAddedLive all engine groups silent old.entries) old new →
@@ -113,13 +94,8 @@ same_room all engine groups silent old new grew =
 plain_origin : (all : Dqbf) (engine : Engine) (earlier : List Entry) (origin : Origin) (c : List Literal) →
     same_engine circuits engine ≡ false → origin_engine origin ≡ engine →
     MatchesLiveOrigin all earlier (Given origin c) → MatchesOrigin all earlier (Given origin c)
-plain_origin all engine earlier (Instance k j) c other own is = is
-plain_origin all engine earlier (Gate v i) c other own is = is
 plain_origin all engine earlier (Fault j i leaf) c other own is = search arith
-plain_origin all engine earlier (Copy side j) c other own is = is
-plain_origin all engine earlier (Link v i) c other own is = is
-plain_origin all engine earlier (TermGate v i) c other own is = is
-plain_origin all engine earlier (Differ y leaf part) c other own is = is
+plain_origin all engine earlier _ c other own is = is
 
 -- a number that no group has
 abbrev above : List Group → ℕ
@@ -183,8 +159,7 @@ module _ (stay : CheckersStay) (all : Dqbf) (engine : Engine) (other : same_engi
   checker_each (Answer d hints ∷ more) each before =
       by_one (above (gate_groups c)) (more ++ start) (Answer d hints) not_more (λ quiet. cc)
       (checker_each more each.1 before)
-  checker_each (Round row values j ∷ more) each before = absurd each.0
-  checker_each (Begun live ∷ more) each before = absurd each.0
+  checker_each (_ ∷ more) each before = absurd each.0
 
 some_is : (o : Option Name) (n : Name) → o ≡ Some n → IsSome o
 some_is None n is = cc

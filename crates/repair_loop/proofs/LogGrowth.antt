@@ -1,7 +1,7 @@
 -- How a log grows by calls of a search: no search begins, no step is lost.
 use Rattle.std.proofs.Common.{◌≡◌, ◌+◌, ◌-◌, ◌≤◌, ◌<◌, ℕ, Bool, true, false, cond, List, [], ◌∷◌, ◌++◌, refl, sym, ◌∙◌, ap, arith, append_assoc, IsSome}
 use Rattle.dq_lits.specs.Formula.{Dqbf}
-use Rattle.hint_log.specs.Entries.{Entry, Named, Given, Learned, Answer, Round, Begun, ProofLog, with_entry, steps_of, beginnings_of, is_beginning}
+use Rattle.hint_log.specs.Entries.{Entry, Round, Begun, ProofLog, with_entry, steps_of, beginnings_of, is_beginning}
 use Rattle.hint_log.specs.Growth.{EachOf, Grew}
 use Rattle.hint_log.specs.Live.{live_numbers, before_beginning}
 use Rattle.std.proofs.lemmas.List.{length-append}
@@ -24,16 +24,10 @@ no_more (e ∷ xs) ys one two = by (λ h. no_more xs ys h two) (is_beginning e) 
 none_begun : (all : Dqbf) (engine : Engine) (groups : List ℕ) (silent : Bool) (start more old : List Entry) →
     EachOf (IsAddedLive all engine groups silent start) more old → beginnings_of more ≡ 0
 none_begun all engine groups silent start [] old each = refl
-none_begun all engine groups silent start (Named v n ∷ more) old each =
-    none_begun all engine groups silent start more old each.1
-none_begun all engine groups silent start (Given origin c ∷ more) old each =
-    none_begun all engine groups silent start more old each.1
-none_begun all engine groups silent start (Learned c hints ∷ more) old each =
-    none_begun all engine groups silent start more old each.1
-none_begun all engine groups silent start (Answer c hints ∷ more) old each =
-    none_begun all engine groups silent start more old each.1
 none_begun all engine groups silent start (Round row values j ∷ more) old each = absurd each.0
 none_begun all engine groups silent start (Begun live ∷ more) old each = absurd each.0
+none_begun all engine groups silent start (_ ∷ more) old each =
+    none_begun all engine groups silent start more old each.1
 
 pub log_grew : (all : Dqbf) (engine : Engine) (groups : List ℕ) (silent : Bool) (start : List Entry)
     (old new : ProofLog) → Grew (IsAddedLive all engine groups silent start) old new → LogGrew old new
@@ -85,32 +79,20 @@ fewer_left a b c d one three two more left = search arith
 pub some_live : (more : List Entry) (live : List ℕ) (old : List Entry) →
     IsSome (live_numbers (more ++ Begun live ∷ old))
 some_live [] live old = refl
-some_live (Named v n ∷ more) live old = some_live more live old
-some_live (Given origin c ∷ more) live old = some_live more live old
-some_live (Learned c hints ∷ more) live old = some_live more live old
-some_live (Answer c hints ∷ more) live old = some_live more live old
-some_live (Round row values j ∷ more) live old = some_live more live old
 some_live (Begun numbers ∷ more) live old = refl
+some_live (_ ∷ more) live old = some_live more live old
 
 -- what was live, and what stood before, where no search began
 pub same_live : (more old : List Entry) → beginnings_of more ≡ 0 → live_numbers (more ++ old) ≡ live_numbers old
 same_live [] old none = refl
-same_live (Named v n ∷ more) old none = same_live more old none
-same_live (Given origin c ∷ more) old none = same_live more old none
-same_live (Learned c hints ∷ more) old none = same_live more old none
-same_live (Answer c hints ∷ more) old none = same_live more old none
-same_live (Round row values j ∷ more) old none = same_live more old none
 same_live (Begun live ∷ more) old none = absurd (omega (arith, none))
+same_live (_ ∷ more) old none = same_live more old none
 
 pub same_before : (more old : List Entry) → beginnings_of more ≡ 0 →
     before_beginning (more ++ old) ≡ before_beginning old
 same_before [] old none = refl
-same_before (Named v n ∷ more) old none = same_before more old none
-same_before (Given origin c ∷ more) old none = same_before more old none
-same_before (Learned c hints ∷ more) old none = same_before more old none
-same_before (Answer c hints ∷ more) old none = same_before more old none
-same_before (Round row values j ∷ more) old none = same_before more old none
 same_before (Begun live ∷ more) old none = absurd (omega (arith, none))
+same_before (_ ∷ more) old none = same_before more old none
 
 pub begun_before : (live : List ℕ) (old new : List Entry) → HasBegun live old new → before_beginning new ≡ old
 begun_before live old new begun = search (arith, same_before)

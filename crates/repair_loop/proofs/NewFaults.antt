@@ -3,11 +3,11 @@ use Rattle.std.proofs.Common.{◌≡◌, ◌⊎◌, ℕ, Bool, false, List, [], 
 use Rattle.std.specs.List.{Contains}
 use Rattle.dq_lits.specs.Formula.{Dqbf}
 use Rattle.dq_lits.specs.Literal.{Literal}
-use Rattle.hint_log.specs.Entries.{Entry, Named, Given, Learned, Answer, Round, Begun, ProofLog, name_of}
+use Rattle.hint_log.specs.Entries.{Entry, Given, Round, Begun, ProofLog, name_of}
 use Rattle.hint_log.specs.Growth.{Each, EachOf, Grew}
 use Rattle.hint_log.specs.Live.{before_beginning}
 use Rattle.hint_log.specs.declared.origins.Origin.{Origin}
-use Rattle.hint_log.specs.declared.origins.Origin.TheVariants.{Instance, Gate, Fault, Copy, Link, TermGate, Differ}
+use Rattle.hint_log.specs.declared.origins.Origin.TheVariants.{Gate, Fault}
 use Rattle.log_laws.specs.Engines.{Engine, circuits, same_engine, origin_engine, IsInGroup}
 use Rattle.log_laws.specs.Sessions.{IsAddedLive}
 use Rattle.circuit_cnf.specs.Gates.{IsGateGiven}
@@ -19,29 +19,20 @@ use Rattle.log_laws.proofs.Kept.{in_one_group}
 other_given : (before earlier : List Entry) (engine : Engine) (origin : Origin) (c : List Literal) →
     same_engine engine circuits ≡ false → origin_engine origin ≡ engine → AreFaultsNew before earlier →
     AreFaultsNew before (Given origin c ∷ earlier)
-other_given before earlier engine (Instance k j) c other own new = new
-other_given before earlier engine (Gate v i) c other own new = new
 other_given before earlier engine (Fault j i leaf) c other own new = search arith
-other_given before earlier engine (Copy side j) c other own new = new
-other_given before earlier engine (Link v i) c other own new = new
-other_given before earlier engine (TermGate v i) c other own new = new
-other_given before earlier engine (Differ y leaf part) c other own new = new
+other_given before earlier engine _ c other own new = new
 
 others_each : (before : List Entry) (all : Dqbf) (engine : Engine) (groups : List ℕ) (silent : Bool)
     (start more old : List Entry) → same_engine engine circuits ≡ false →
     EachOf (IsAddedLive all engine groups silent start) more old → AreFaultsNew before old →
     AreFaultsNew before (more ++ old)
 others_each before all engine groups silent start [] old other each new = new
-others_each before all engine groups silent start (Named v n ∷ more) old other each new =
-    others_each before all engine groups silent start more old other each.1 new
 others_each before all engine groups silent start (Given origin c ∷ more) old other each new =
     search (arith, other_given, (others_each before all engine groups silent start more old other each.1 new))
-others_each before all engine groups silent start (Learned c hints ∷ more) old other each new =
-    others_each before all engine groups silent start more old other each.1 new
-others_each before all engine groups silent start (Answer c hints ∷ more) old other each new =
-    others_each before all engine groups silent start more old other each.1 new
 others_each before all engine groups silent start (Round row values j ∷ more) old other each new = absurd each.0
 others_each before all engine groups silent start (Begun live ∷ more) old other each new = absurd each.0
+others_each before all engine groups silent start (_ ∷ more) old other each new =
+    others_each before all engine groups silent start more old other each.1 new
 
 pub others_new : (all : Dqbf) (engine : Engine) (groups : List ℕ) (silent : Bool) (old new : ProofLog) →
     same_engine engine circuits ≡ false → Grew (IsAddedLive all engine groups silent old.entries) old new →
@@ -55,30 +46,22 @@ turn_given : (before start earlier : List Entry) (gates : ℕ) (origin : Origin)
     (g : ℕ) × IsInGroup g c × (Contains (gates ∷ []) g ⊎ (name_of start g ≡ None)) →
     IsGateGiven gates earlier (Given origin c) → AreFaultsNew before earlier →
     AreFaultsNew before (Given origin c ∷ earlier)
-turn_given before start earlier gates (Instance k j) c older placed own new = new
 turn_given before start earlier gates (Gate v i) c older placed own new = new
 turn_given before start earlier gates (Fault j i leaf) c older (g, inside, place) own new =
     search (arith, in_one_group)
-turn_given before start earlier gates (Copy side j) c older placed own new = new
-turn_given before start earlier gates (Link v i) c older placed own new = new
-turn_given before start earlier gates (TermGate v i) c older placed own new = new
-turn_given before start earlier gates (Differ y leaf part) c older placed own new = new
+turn_given before start earlier gates _ c older placed own new = new
 
 turns_each : (before : List Entry) (all : Dqbf) (gates : ℕ) (silent : Bool) (start more old : List Entry) →
     ((v : ℕ) → name_of start v ≡ None → name_of before v ≡ None) →
     EachOf (IsAddedLive all circuits (gates ∷ []) silent start) more old → Each (IsGateGiven gates) (more ++ old) →
     AreFaultsNew before old → AreFaultsNew before (more ++ old)
 turns_each before all gates silent start [] old older each own new = new
-turns_each before all gates silent start (Named v n ∷ more) old older each own new =
-    turns_each before all gates silent start more old older each.1 own.1 new
 turns_each before all gates silent start (Given origin c ∷ more) old older each own new =
     search (arith, turn_given, (turns_each before all gates silent start more old older each.1 own.1 new))
-turns_each before all gates silent start (Learned c hints ∷ more) old older each own new =
-    turns_each before all gates silent start more old older each.1 own.1 new
-turns_each before all gates silent start (Answer c hints ∷ more) old older each own new =
-    turns_each before all gates silent start more old older each.1 own.1 new
 turns_each before all gates silent start (Round row values j ∷ more) old older each own new = absurd each.0
 turns_each before all gates silent start (Begun live ∷ more) old older each own new = absurd each.0
+turns_each before all gates silent start (_ ∷ more) old older each own new =
+    turns_each before all gates silent start more old older each.1 own.1 new
 
 pub turns_new : (all : Dqbf) (gates : ℕ) (silent : Bool) (old new : ProofLog) →
     Grew (IsAddedLive all circuits (gates ∷ []) silent old.entries) old new →

@@ -1,18 +1,18 @@
--- Where the one search of a log is about all clauses, an answer that decides for one formula decides for
--- the search: so a search that is undecided leaves the log undecided.
+-- Where the one search of a log is about all clauses, an answer that decides for one formula
+-- decides for the search: so a search that is undecided leaves the log undecided.
 use Rattle.std.proofs.Common.{◌≡◌, ◌==◌, ◌+◌, ◌≤◌, ℕ, zero, suc, Bool, true, false, ◌&&◌, cond, inl, inr, ◌⊎◌, List, [], ◌∷◌, ◌++◌, length, Option, None, Some, refl, sym, ◌∙◌, ap, subst, arith}
 use Rattle.std.specs.List.{Contains}
 use Rattle.std.proofs.lemmas.Bool.{cases_Bool, eqb-true}
 use Rattle.dq_lits.specs.Literal.{Literal}
 use Rattle.dq_lits.specs.Formula.{Dqbf}
 use Rattle.hint_log.specs.Deciding.{IsCircuitGiven, DecidesFalse, DecidesTrue, IsUndecided}
-use Rattle.hint_log.specs.Entries.{Entry, Named, Given, Learned, Answer, Round, Begun, has_id, numbered, name_of, count, beginnings_of}
+use Rattle.hint_log.specs.Entries.{Entry, Named, Given, Answer, Begun, has_id, numbered, name_of, count, beginnings_of}
 use Rattle.hint_log.specs.Growth.{Each}
 use Rattle.hint_log.specs.Live.{live_numbers, before_beginning, live_formula, formula_of, formula_by}
 use Rattle.hint_log.specs.ProductiveSession.{MatchesLiveOrigin, DecidesLiveFalse, DecidesLiveTrue, IsUndecidedSince}
 use Rattle.hint_log.specs.declared.names.Name.{Name}
 use Rattle.hint_log.specs.declared.origins.Origin.{Origin}
-use Rattle.hint_log.specs.declared.origins.Origin.TheVariants.{Instance, Gate, Fault, Copy, Link, TermGate, Differ}
+use Rattle.hint_log.specs.declared.origins.Origin.TheVariants.{Instance, Gate, Fault}
 use Rattle.hint_log.proofs.NamedEntries.{each_one, numbered_low}
 use Rattle.log_laws.specs.Engines.{IsInGroup}
 use Rattle.repair_loop.specs.SearchStates.{IsOfSearch}
@@ -32,11 +32,7 @@ unnamed_above (Named w n ∷ es) v high =
     by_bit : ((v == w) ≡ true) ⊎ ((v == w) ≡ false) → name_of es v ≡ None → name_of (Named w n ∷ es) v ≡ None
     by_bit (inl same) none = let is : v ≡ w = eqb-true v w same in absurd (omega (arith, is, high))
     by_bit (inr other) none = ap (λ b. cond b (Some n) (name_of es v)) other ∙ none
-unnamed_above (Given origin c ∷ es) v high = unnamed_above es v high
-unnamed_above (Learned c hints ∷ es) v high = unnamed_above es v high
-unnamed_above (Answer c hints ∷ es) v high = unnamed_above es v high
-unnamed_above (Round row values j ∷ es) v high = unnamed_above es v high
-unnamed_above (Begun live ∷ es) v high = unnamed_above es v high
+unnamed_above (_ ∷ es) v high = unnamed_above es v high
 
 -- the entry with an id is an entry
 numbered_there : (test : Entry → Bool) (es : List Entry) (n : ℕ) (e : Entry) → numbered test es n ≡ Some e →
@@ -58,17 +54,9 @@ no_fault (x ∷ es) tried none j i leaf c (zero, below, is) =
     let here : IsOfSearch es (Given (Fault j i leaf) c) = subst (IsOfSearch es) is tried.0 in
     let still : live_numbers (Given (Fault j i leaf) c ∷ es) ≡ None = ap (λ e. live_numbers (e ∷ es)) (sym is) ∙ none in
     cc
-no_fault (Named v n ∷ es) tried none j i leaf c (suc k, below, is) =
-    no_fault es tried.1 none j i leaf c (k, omega (arith, below), is)
-no_fault (Given origin d ∷ es) tried none j i leaf c (suc k, below, is) =
-    no_fault es tried.1 none j i leaf c (k, omega (arith, below), is)
-no_fault (Learned d hints ∷ es) tried none j i leaf c (suc k, below, is) =
-    no_fault es tried.1 none j i leaf c (k, omega (arith, below), is)
-no_fault (Answer d hints ∷ es) tried none j i leaf c (suc k, below, is) =
-    no_fault es tried.1 none j i leaf c (k, omega (arith, below), is)
-no_fault (Round row values m ∷ es) tried none j i leaf c (suc k, below, is) =
-    no_fault es tried.1 none j i leaf c (k, omega (arith, below), is)
 no_fault (Begun live ∷ es) tried none j i leaf c (suc k, below, is) = cc
+no_fault (_ ∷ es) tried none j i leaf c (suc k, below, is) =
+    no_fault es tried.1 none j i leaf c (k, omega (arith, below), is)
 
 module _ (f : Dqbf) (live : List ℕ) (whole : formula_of f live ≡ f)
     (all_live : (j : ℕ) → 1 ≤ j → j ≤ length f.matrix → Contains live j) (old : List Entry)
@@ -78,31 +66,18 @@ module _ (f : Dqbf) (live : List ℕ) (whole : formula_of f live ≡ f)
 
   same_live : (more : List Entry) → beginnings_of more ≡ 0 → live_numbers (more ++ Begun live ∷ old) ≡ Some live
   same_live [] none = refl
-  same_live (Named v n ∷ more) none = same_live more none
-  same_live (Given origin c ∷ more) none = same_live more none
-  same_live (Learned c hints ∷ more) none = same_live more none
-  same_live (Answer c hints ∷ more) none = same_live more none
-  same_live (Round row values j ∷ more) none = same_live more none
   same_live (Begun numbers ∷ more) none = absurd (omega (arith, none))
+  same_live (_ ∷ more) none = same_live more none
 
   same_before : (more : List Entry) → beginnings_of more ≡ 0 → before_beginning (more ++ Begun live ∷ old) ≡ old
   same_before [] none = refl
-  same_before (Named v n ∷ more) none = same_before more none
-  same_before (Given origin c ∷ more) none = same_before more none
-  same_before (Learned c hints ∷ more) none = same_before more none
-  same_before (Answer c hints ∷ more) none = same_before more none
-  same_before (Round row values j ∷ more) none = same_before more none
   same_before (Begun numbers ∷ more) none = absurd (omega (arith, none))
+  same_before (_ ∷ more) none = same_before more none
 
   tail_new : (es : List Entry) (origin : Origin) (c : List Literal) → AreFaultsNew old (Given origin c ∷ es) →
       AreFaultsNew old es
-  tail_new es (Instance k j) c new = new
-  tail_new es (Gate v i) c new = new
   tail_new es (Fault j i leaf) c new = new.1
-  tail_new es (Copy side j) c new = new
-  tail_new es (Link v i) c new = new
-  tail_new es (TermGate v i) c new = new
-  tail_new es (Differ y leaf part) c new = new
+  tail_new es _ c new = new
 
   head_new : (es : List Entry) (origin : Origin) (d : List Literal) → AreFaultsNew old (Given origin d ∷ es) →
       (j i : ℕ) (leaf : _) (c : List Literal) (g : ℕ) → Given origin d ≡ Given (Fault j i leaf) c → IsInGroup g c →
@@ -117,24 +92,15 @@ module _ (f : Dqbf) (live : List ℕ) (whole : formula_of f live ≡ f)
   fault_new [] none new j i leaf c (zero, below, is) g inside = cc
   fault_new [] none new j i leaf c (suc k, below, is) g inside =
       absurd (no_fault old tried plain j i leaf c (k, omega (arith, below), is))
-  fault_new (Named v n ∷ more) none new j i leaf c (zero, below, is) g inside = cc
-  fault_new (Named v n ∷ more) none new j i leaf c (suc k, below, is) g inside =
-      fault_new more none new j i leaf c (k, omega (arith, below), is) g inside
   fault_new (Given origin d ∷ more) none new j i leaf c (zero, below, is) g inside =
       head_new (more ++ Begun live ∷ old) origin d new j i leaf c g is inside
   fault_new (Given origin d ∷ more) none new j i leaf c (suc k, below, is) g inside =
       fault_new more none (tail_new (more ++ Begun live ∷ old) origin d new) j i leaf c (k, omega (arith, below), is) g
       inside
-  fault_new (Learned d hints ∷ more) none new j i leaf c (zero, below, is) g inside = cc
-  fault_new (Learned d hints ∷ more) none new j i leaf c (suc k, below, is) g inside =
-      fault_new more none new j i leaf c (k, omega (arith, below), is) g inside
-  fault_new (Answer d hints ∷ more) none new j i leaf c (zero, below, is) g inside = cc
-  fault_new (Answer d hints ∷ more) none new j i leaf c (suc k, below, is) g inside =
-      fault_new more none new j i leaf c (k, omega (arith, below), is) g inside
-  fault_new (Round row values m ∷ more) none new j i leaf c (zero, below, is) g inside = cc
-  fault_new (Round row values m ∷ more) none new j i leaf c (suc k, below, is) g inside =
-      fault_new more none new j i leaf c (k, omega (arith, below), is) g inside
   fault_new (Begun numbers ∷ more) none new j i leaf c has g inside = absurd (omega (arith, none))
+  fault_new (_ ∷ more) none new j i leaf c (suc k, below, is) g inside =
+      fault_new more none new j i leaf c (k, omega (arith, below), is) g inside
+  fault_new (_ ∷ more) none new j i leaf c (zero, below, is) g inside = cc
 
   module _ (more : List Entry) (none : beginnings_of more ≡ 0)
       (given : Each (MatchesLiveOrigin f) (more ++ Begun live ∷ old))
@@ -158,16 +124,12 @@ module _ (f : Dqbf) (live : List ℕ) (whole : formula_of f live ≡ f)
 
     moved : (g h : ℕ) (n : Name) → name_of old g ≡ Some n → (origin : Origin) (i : List Literal) →
         Contains es (Given origin i) → IsCircuitGiven g origin i → IsCircuitGiven h origin i
-    moved g h n old_name (Instance k j) i has is = absurd is
     moved g h n old_name (Gate v part) i has is = tt
     moved g h n old_name (Fault j part leaf) i has is =
         let nothing = fault_new more none new j part leaf i has g is in
         let e : Some n ≡ None = sym old_name ∙ nothing in
         cc
-    moved g h n old_name (Copy side j) i has is = absurd is
-    moved g h n old_name (Link v part) i has is = absurd is
-    moved g h n old_name (TermGate v part) i has is = absurd is
-    moved g h n old_name (Differ y leaf part) i has is = absurd is
+    moved g h n old_name _ i has is = absurd is
 
     since_decides : (d : DecidesTrue f es c hints) → name_of old d.rests.group ≡ None → DecidesLiveTrue f es c hints
     since_decides d fresh = record {
@@ -202,10 +164,8 @@ module _ (f : Dqbf) (live : List ℕ) (whole : formula_of f live ≡ f)
       Each (MatchesLiveOrigin f) (more ++ Begun live ∷ old) → AreFaultsNew old (more ++ Begun live ∷ old) →
       IsUndecidedSince f (more ++ Begun live ∷ old) → IsUndecided f (more ++ Begun live ∷ old)
   undecided_plainly [] none given new u = (tt, before)
-  undecided_plainly (Named v n ∷ more) none given new u = (tt, undecided_plainly more none given.1 new u)
   undecided_plainly (Given origin c ∷ more) none given new u =
       (tt, undecided_plainly more none given.1 (tail_new (more ++ Begun live ∷ old) origin c new) u)
-  undecided_plainly (Learned c hints ∷ more) none given new u = (tt, undecided_plainly more none given.1 new u)
   undecided_plainly (Answer c hints ∷ more) none given new u = (
     (
       λ no. u.0 (live_false more none given.1 new c hints no),
@@ -213,5 +173,5 @@ module _ (f : Dqbf) (live : List ℕ) (whole : formula_of f live ≡ f)
     ),
     undecided_plainly more none given.1 new u.2,
   )
-  undecided_plainly (Round row values j ∷ more) none given new u = (tt, undecided_plainly more none given.1 new u)
   undecided_plainly (Begun numbers ∷ more) none given new u = absurd (omega (arith, none))
+  undecided_plainly (_ ∷ more) none given new u = (tt, undecided_plainly more none given.1 new u)

@@ -4,16 +4,16 @@ use Rattle.std.specs.Option.{option_map}
 use Rattle.dq_lits.specs.Literal.{Literal, variable_of}
 use Rattle.dq_lits.specs.Formula.{Dqbf, IsWellFormed}
 use Rattle.hint_log.specs.Deciding.{DecidesNothing, IsFaultLeaf}
-use Rattle.hint_log.specs.Entries.{Entry, Named, Given, Learned, Answer, Round, Begun, ProofLog}
+use Rattle.hint_log.specs.Entries.{Entry, Named, Given, Learned, Answer, ProofLog}
 use Rattle.hint_log.specs.Growth.{EachOf, Grew}
 use Rattle.hint_log.specs.Naming.{numbered_from_one}
 use Rattle.hint_log.specs.Origins.{IsRestOf, IsOriginsClause, matrix_literal}
 use Rattle.hint_log.specs.ProductiveLog.{IsRightlyNamed}
 use Rattle.hint_log.specs.declared.names.Name.{Name}
-use Rattle.hint_log.specs.declared.names.Name.TheVariants.{Selector, Pair, Input, And, Bad, Copy as CopyOf, Term}
+use Rattle.hint_log.specs.declared.names.Name.TheVariants.{Input}
 use Rattle.hint_log.specs.declared.origins.Leaf.{Leaf}
 use Rattle.hint_log.specs.declared.origins.Origin.{Origin}
-use Rattle.hint_log.specs.declared.origins.Origin.TheVariants.{Instance, Gate, Fault, Copy, Link, TermGate, Differ}
+use Rattle.hint_log.specs.declared.origins.Origin.TheVariants.{Fault, Copy, Link, TermGate, Differ}
 use Rattle.log_laws.specs.Engines.{copies, origin_engine, IsAddedBy}
 use Rattle.definability.specs.Leaving.{ClausesLeaveStores}
 use Rattle.definability.specs.Store.{IsCopyStore}
@@ -35,23 +35,16 @@ module _ (f : Dqbf) where
   bare = record f { matrix = [] }
 
   named_rightly : (n : Name) → IsRightlyNamed bare n → IsRightlyNamed f n
-  named_rightly (Selector g) is = tt
-  named_rightly (Pair k y) is = tt
   named_rightly (Input x) is = is
-  named_rightly (And l r) is = tt
-  named_rightly (Bad g j) is = tt
-  named_rightly (CopyOf side x) is = tt
-  named_rightly (Term l r) is = tt
+  named_rightly _ is = tt
 
   rest_there : (es : List Entry) (group : ℕ) (origin : Origin) (rest : List Literal) →
       origin_engine origin ≡ copies → IsRestOf bare es group origin rest → IsRestOf f es group origin rest
-  rest_there es group (Instance k j) rest own is = cc
-  rest_there es group (Gate v i) rest own is = cc
-  rest_there es group (Fault j i leaf) rest own is = cc
   rest_there es group (Copy side j) rest own is = absurd (no_clause j is.1.clause is.1.clause_is)
   rest_there es group (Link v i) rest own is = is
   rest_there es group (TermGate v i) rest own is = is
   rest_there es group (Differ y leaf part) rest own is = search arith
+  rest_there es group _ rest own is = cc
 
   no_fault : (origin : Origin) (j i : ℕ) (leaf : Leaf) → origin_engine origin ≡ copies → origin ≡ Fault j i leaf → ⊥
   no_fault origin j i leaf own is = let other = sym (ap origin_engine is) ∙ own in cc
@@ -76,8 +69,7 @@ module _ (f : Dqbf) where
       search (arith, clause_there, (each_there group start more old each.1))
   each_there group start (Learned c hints ∷ more) old each = (tt, each_there group start more old each.1)
   each_there group start (Answer c hints ∷ more) old each = search (arith, (each_there group start more old each.1))
-  each_there group start (Round row values j ∷ more) old each = absurd each.0
-  each_there group start (Begun live ∷ more) old each = absurd each.0
+  each_there group start (_ ∷ more) old each = absurd each.0
 
   pub added_there : (group : ℕ) (old new : ProofLog) → Grew (IsAddedBy bare copies group true old.entries) old new →
       Grew (IsAddedBy f copies group true old.entries) old new

@@ -12,7 +12,8 @@ use Rattle.aig_graph.specs.Graph.{AigGraph, node_support}
 use Rattle.aig_graph.specs.Outputs.{ReadDeclared, ReadsUniversals, output_node, outputs_of}
 use Rattle.definition_order.proofs.Declared.{existential_at}
 
--- the variable of an input that is read is in range, and that of an input behind the universals isn't
+-- the variable of an input that is read is in range, and that of an input behind the universals
+-- isn't
 input_below : (f : Dqbf) → HasLawfulPrefix f → (y : Existential) → Contains f.existentials y → (i : ℕ) →
     Contains y.sees (slice_index f.universals i) → i < length f.universals
 input_below f lawful y among i seen =

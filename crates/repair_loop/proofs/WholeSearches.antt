@@ -3,13 +3,13 @@ use Rattle.std.proofs.Common.{◌≡◌, ℕ, Bool, true, List, [], ◌∷◌, N
 use Rattle.dq_lits.specs.Formula.{Dqbf}
 use Rattle.dq_lits.specs.Literal.{Literal}
 use Rattle.hint_log.specs.Deciding.{IsUndecided}
-use Rattle.hint_log.specs.Entries.{Entry, Named, Given, Learned, Answer, Round, Begun, ProofLog}
+use Rattle.hint_log.specs.Entries.{Entry, Named, Given, Begun, ProofLog}
 use Rattle.hint_log.specs.Growth.{Each, Grew}
 use Rattle.hint_log.specs.Live.{live_numbers, live_formula, formula_of}
 use Rattle.hint_log.specs.ProductiveLog.{MatchesOrigin, RefutesNewRow, FollowsModel, IsNotRepeated, IsProductiveLog}
 use Rattle.hint_log.specs.ProductiveSession.{MatchesLiveOrigin, RefutesNewLiveRow, FollowsLiveModel, IsUndecidedSince}
 use Rattle.hint_log.specs.declared.origins.Origin.{Origin}
-use Rattle.hint_log.specs.declared.origins.Origin.TheVariants.{Instance, Gate, Fault, Copy, Link, TermGate, Differ}
+use Rattle.hint_log.specs.declared.origins.Origin.TheVariants.{Fault}
 use Rattle.log_laws.specs.Engines.{Engine, EnginesLeaveRest, IsAddedBy, instances}
 use Rattle.log_laws.specs.Sessions.{EnginesLeaveSessions, PlainLogsAreSessions, IsAddedLive}
 use Rattle.oracle.specs.Searched.{IsSearched}
@@ -30,32 +30,20 @@ pub record IsPlain (f : Dqbf) (entries : List Entry) : Type 0 where
 
 pub whole_formula : (f : Dqbf) (es : List Entry) → Each (IsWhole f) es → live_formula f es ≡ f
 whole_formula f [] whole = refl
-whole_formula f (Named v n ∷ es) whole = whole_formula f es whole.1
-whole_formula f (Given origin c ∷ es) whole = whole_formula f es whole.1
-whole_formula f (Learned c hints ∷ es) whole = whole_formula f es whole.1
-whole_formula f (Answer c hints ∷ es) whole = whole_formula f es whole.1
-whole_formula f (Round row values j ∷ es) whole = whole_formula f es whole.1
 whole_formula f (Begun live ∷ es) whole = whole.0
+whole_formula f (_ ∷ es) whole = whole_formula f es whole.1
 
 plain_given : (f : Dqbf) (earlier : List Entry) (origin : Origin) (c : List Literal) → Each (IsWhole f) earlier →
     MatchesLiveOrigin f earlier (Given origin c) → MatchesOrigin f earlier (Given origin c)
-plain_given f earlier (Instance k j) c whole is = is
-plain_given f earlier (Gate v i) c whole is = is
 plain_given f earlier (Fault j i leaf) c whole is = search (arith, whole_formula)
-plain_given f earlier (Copy side j) c whole is = is
-plain_given f earlier (Link v i) c whole is = is
-plain_given f earlier (TermGate v i) c whole is = is
-plain_given f earlier (Differ y leaf part) c whole is = is
+plain_given f earlier _ c whole is = is
 
 plain_origins : (f : Dqbf) (es : List Entry) → Each (IsWhole f) es → Each (MatchesLiveOrigin f) es →
     Each (MatchesOrigin f) es
 plain_origins f [] whole each = tt
 plain_origins f (Named v n ∷ es) whole each = (each.0, plain_origins f es whole.1 each.1)
 plain_origins f (Given origin c ∷ es) whole each = search (arith, plain_given, (plain_origins f es whole.1 each.1))
-plain_origins f (Learned c hints ∷ es) whole each = (tt, plain_origins f es whole.1 each.1)
-plain_origins f (Answer c hints ∷ es) whole each = (tt, plain_origins f es whole.1 each.1)
-plain_origins f (Round row values j ∷ es) whole each = (tt, plain_origins f es whole.1 each.1)
-plain_origins f (Begun live ∷ es) whole each = (tt, plain_origins f es whole.1 each.1)
+plain_origins f (_ ∷ es) whole each = (tt, plain_origins f es whole.1 each.1)
 
 plain_rows : (f : Dqbf) (es : List Entry) → Each (IsWhole f) es → Each (RefutesNewLiveRow f) es →
     Each (RefutesNewRow f) es
@@ -84,12 +72,8 @@ productive f entries kept searched = record {
 -- no search began
 pub none_whole : (f : Dqbf) (es : List Entry) → live_numbers es ≡ None → Each (IsWhole f) es
 none_whole f [] none = tt
-none_whole f (Named v n ∷ es) none = (tt, none_whole f es none)
-none_whole f (Given origin c ∷ es) none = (tt, none_whole f es none)
-none_whole f (Learned c hints ∷ es) none = (tt, none_whole f es none)
-none_whole f (Answer c hints ∷ es) none = (tt, none_whole f es none)
-none_whole f (Round row values j ∷ es) none = (tt, none_whole f es none)
 none_whole f (Begun live ∷ es) none = cc
+none_whole f (_ ∷ es) none = (tt, none_whole f es none)
 
 pub still_plain : EnginesLeaveRest → (f : Dqbf) (engine : Engine) (group : ℕ) (silent : Bool) (old new : ProofLog) →
     Grew (IsAddedBy f engine group silent old.entries) old new → IsPlain f old.entries → IsPlain f new.entries

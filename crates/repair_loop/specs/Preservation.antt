@@ -24,8 +24,8 @@ use Rattle.repair_loop.specs.SearchStates.{AreApart, IsDatabaseAfter, IsKept}
 use Rattle.repair_loop.specs.Searching.{AreCandidates}
 use Rattle.repair_loop.specs.Turning.{AreFaultsNew, IsUnderWay, IsOpen, IsRoundLogged, HasGoneOn, LogGrew}
 
--- whatever came of a call that adds no round: the search goes on, and is as undecided and as whole as
--- before
+-- whatever came of a call that adds no round: the search goes on, and is as undecided and as whole
+-- as before
 pub record IsLeft (f : Dqbf) (b after : DatabaseState) (c d : Checker) (p : Definability) (ready : Bool) (silent : Bool)
     (old new : ProofLog) : Type 0 where
   pub went : HasGoneOn f b after c d p ready old new

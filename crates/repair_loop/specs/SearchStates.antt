@@ -28,8 +28,8 @@ use Rattle.known_functions.specs.Searching.{HasInputs}
 use Rattle.repair_loop.specs.declared.search_states.SearchState.{SearchState}
 use Rattle.repair_loop.specs.Searching.{IsShownTrue}
 
--- the points of a session's log that the engines and the loop keep; the solver keeps the others, and
--- how groups go by frames the database and the copies tell
+-- the points of a session's log that the engines and the loop keep; the solver keeps the others,
+-- and how groups go by frames the database and the copies tell
 pub record IsKept (all : Dqbf) (entries : List Entry) : Type 0 where
   pub origins : Each (MatchesLiveOrigin all) entries
   pub new_rows : Each (RefutesNewLiveRow all) entries
@@ -53,8 +53,8 @@ pub record IsFirstDatabase (f : Dqbf) (b : DatabaseState) (entries : List Entry)
   pub entries_are : after.entries ≡ entries
   pub alone : Grew (IsAddedLive f instances [] true before.entries) before after
 
--- a search state of the database's session: the checker of its circuits, the copies of all clauses so far, and
--- the numbers that the last beginning names
+-- a search state of the database's session: the checker of its circuits, the copies of all clauses
+-- so far, and the numbers that the last beginning names
 pub record IsSearchState (b : DatabaseState) (d : SearchState) (entries : List Entry) : Type 0 where
   pub checked : IsChecker b.file d.checker entries
   pub stored : IsCopyStore (all_of b) (frames_of b) d.definability entries
@@ -83,7 +83,8 @@ pub record HasBegun (live : List ℕ) (old new : List Entry) : Type 0 where
   pub none : beginnings_of more ≡ 0
   pub named : live_numbers new ≡ Some live
 
--- behind a search the database has more rows, and more of its clauses' instances, and as many frames
+-- behind a search the database has more rows, and more of its clauses' instances, and as many
+-- frames
 pub record IsDatabaseAfter (old new : DatabaseState) : Type 0 where
   pub same : new ≡ record old { table = new.table; given = new.given; groups = new.groups }
   pub many_groups : length new.groups ≡ length old.groups

@@ -99,8 +99,8 @@ pub record HasEnded (b after : DatabaseState) (old new : ProofLog) : Type 0 wher
   pub database : IsDatabaseAfter b after
   pub grew : LogGrew old new
 
--- where a call stopped, nothing is decided; where it stopped at the limit, no step was left, and one
--- could be taken, and the database has the rows of all rounds
+-- where a call stopped, nothing is decided; where it stopped at the limit, no step was left, and
+-- one could be taken, and the database has the rows of all rounds
 pub record IsStoppedAs {T : Type 0} (f : Dqbf) (b : DatabaseState) (log : ProofLog)
     (result : Result T Stop) : Type 0 where
   pub undecided : OnErr result (IsUndecidedSince (all_of b) log.entries)
@@ -128,7 +128,8 @@ pub record AreProposed (f : Dqbf) (graph : AigGraph) (b : DatabaseState) (c : Ch
   pub known : AreKnownIn f graph d
   pub candidates : AreBuilt f graph b.table.rows outputs
 
--- behind a round without a verdict the next one may come: its row is in the database, and a step was taken
+-- behind a round without a verdict the next one may come: its row is in the database, and a step
+-- was taken
 pub record IsNextRound (f : Dqbf) (graph : AigGraph) (b after : DatabaseState) (c d : Checker) (p : Definability)
     (ready : Bool) (known : Definitions) (old new : ProofLog) : Type 0 where
   pub search : IsSearch f graph after d p ready new.entries
