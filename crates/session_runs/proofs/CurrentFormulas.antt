@@ -2,7 +2,7 @@
 use Rattle.std.proofs.Common.{◌≡◌, ℕ, zero, suc, List, [], ◌∷◌, take, length, Option, Some, None, IfSome, refl, sym, ◌∙◌, ap, arith}
 use Rattle.std.proofs.lemmas.List.{length-append}
 use Rattle.dq_lits.specs.Formula.{Dqbf}
-use Rattle.script_text.specs.Commands.{ScriptCommand, push, add, pop, solve}
+use Rattle.script_text.specs.Commands.{ScriptCommand, add, pop}
 use Rattle.dq_session.specs.Databases.{DatabaseState, now_of}
 use Rattle.session_runs.specs.Following.{database_behind}
 
@@ -14,10 +14,9 @@ whole-taken (suc n) (x ∷ xs) same = ap (λ ys. x ∷ ys) (whole-taken n xs (om
 
 now-stays : (b : DatabaseState) (command : ScriptCommand) → length (database_behind b command).live ≡ length b.live
     → now_of b ≡ now_of (database_behind b command)
-now-stays b push same = refl
 now-stays b (add clause) same = search (arith, length-append)
 now-stays b pop same = search (arith, whole-taken)
-now-stays b solve same = refl
+now-stays b _ same = refl
 
 kept : (o : Option Dqbf) (f g : Dqbf) → f ≡ g → IfSome o (λ h. h ≡ f) → IfSome o (λ h. h ≡ g)
 kept None f g same is = is

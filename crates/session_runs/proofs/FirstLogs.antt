@@ -5,7 +5,7 @@ use Rattle.hint_log.specs.Entries.{Entry, Named, Given, Learned, Answer, Round, 
 use Rattle.hint_log.specs.Growth.{Each, Grew}
 use Rattle.hint_log.specs.Live.{live_numbers}
 use Rattle.hint_log.specs.ProductiveLog.{MatchesOrigin, RefutesNewRow, FollowsModel, IsNotRepeated, IsProductiveLog}
-use Rattle.hint_log.specs.declared.origins.Origin.TheVariants.{Instance, Gate, Fault, Copy, Link, TermGate, Differ}
+use Rattle.hint_log.specs.declared.origins.Origin.TheVariants.{Fault}
 use Rattle.log_laws.specs.Engines.{instances}
 use Rattle.log_laws.specs.Sessions.{IsAddedLive}
 use Rattle.log_laws.proofs.LargerLogs.{each_grown}
@@ -20,41 +20,27 @@ module _ (f : Dqbf) (old : List Entry) where
 
   right : (es : List Entry) (e : Entry) → Added es e → MatchesOrigin f es e
   right es (Named v n) h = h.rightly
-  right es (Given (Instance k j) c) h = h.matches_origin
-  right es (Given (Gate v i) c) h = h.matches_origin
   right es (Given (Fault j i leaf) c) h = let own = h.own in cc
-  right es (Given (Copy side j) c) h = h.matches_origin
-  right es (Given (Link v i) c) h = h.matches_origin
-  right es (Given (TermGate v i) c) h = h.matches_origin
-  right es (Given (Differ y leaf part) c) h = h.matches_origin
   right es (Learned c hints) h = tt
   right es (Answer c hints) h = tt
-  right es (Round row values j) h = absurd h
-  right es (Begun live) h = absurd h
+  right es (Given _ c) h = h.matches_origin
+  right es _ h = absurd h
 
   no-row : (es : List Entry) (e : Entry) → Added es e → RefutesNewRow f es e
-  no-row es (Named v n) h = tt
-  no-row es (Given o c) h = tt
-  no-row es (Learned c hints) h = tt
-  no-row es (Answer c hints) h = tt
   no-row es (Round row values j) h = absurd h
   no-row es (Begun live) h = absurd h
+  no-row es _ h = tt
 
   no-model : (es : List Entry) (e : Entry) → Added es e → FollowsModel f es e
-  no-model es (Named v n) h = tt
-  no-model es (Given o c) h = tt
-  no-model es (Learned c hints) h = tt
-  no-model es (Answer c hints) h = tt
   no-model es (Round row values j) h = absurd h
   no-model es (Begun live) h = absurd h
+  no-model es _ h = tt
 
   first-given : (es : List Entry) (e : Entry) → Added es e → IsNotRepeated es e
-  first-given es (Named v n) h = tt
   first-given es (Given o c) h = h.not_repeated
-  first-given es (Learned c hints) h = tt
-  first-given es (Answer c hints) h = tt
   first-given es (Round row values j) h = absurd h
   first-given es (Begun live) h = absurd h
+  first-given es _ h = tt
 
 -- a database's beginning is productive work
 pub first-productive : (f : Dqbf) (old new : ProofLog) → old.entries ≡ []
@@ -78,12 +64,8 @@ first-productive f old new empty grew searched =
 -- where no clauses are live, no search began
 pub none-begun-yet : (es : List Entry) → live_numbers es ≡ None → beginnings_of es ≡ 0
 none-begun-yet [] none = refl
-none-begun-yet (Named v n ∷ es) none = none-begun-yet es none
-none-begun-yet (Given o c ∷ es) none = none-begun-yet es none
-none-begun-yet (Learned c hints ∷ es) none = none-begun-yet es none
-none-begun-yet (Answer c hints ∷ es) none = none-begun-yet es none
-none-begun-yet (Round row values j ∷ es) none = none-begun-yet es none
 none-begun-yet (Begun live ∷ es) none = cc
+none-begun-yet (_ ∷ es) none = none-begun-yet es none
 
 pub first-database : (f : Dqbf) (old new : ProofLog) (b : DatabaseState) → old.entries ≡ []
     → Grew (IsAddedLive f instances [] true old.entries) old new → b ≡ begun f b.table → b.table.rows ≡ []

@@ -17,9 +17,6 @@ use Rattle.session_runs.proofs.Lists.{last-at, front-taken, last-place, found-st
 abbrev nobody : OpenFrame
 nobody = record { number = 0; start = 0 }
 
-abbrev open-frame : ℕ → ℕ → OpenFrame
-open-frame number start = record { number = number; start = start }
-
 -- the frame that was opened last
 abbrev last-frame : List OpenFrame → OpenFrame
 last-frame opens = get_or opens (length opens - 1) nobody

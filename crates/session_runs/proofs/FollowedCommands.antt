@@ -50,18 +50,14 @@ depth-is s solve = refl
 
 count-is : (s : Numbering) (command : ScriptCommand)
     → clauses_behind (length s.clauses) command ≡ length (numbering_behind s command).clauses
-count-is s push = refl
 count-is s (add clause) = sym (length-append s.clauses (clause ∷ []))
-count-is s pop = refl
-count-is s solve = refl
+count-is s _ = refl
 
 few-behind : (f : Dqbf) (s : Numbering) (command : ScriptCommand) (depth : ℕ)
     → IsAllowed f depth (length s.clauses) command → length s.clauses ≤ max_clauses
     → length (numbering_behind s command).clauses ≤ max_clauses
-few-behind f s push depth may few = few
 few-behind f s (add clause) depth may few = search (arith, length-append)
-few-behind f s pop depth may few = few
-few-behind f s solve depth may few = few
+few-behind f s _ depth may few = few
 
 module _ (stand : FollowingDatabasesStand) (f : Dqbf) (commands left : List ScriptCommand) (b : DatabaseState)
     (searches : List Search) (command : ScriptCommand)
@@ -79,10 +75,8 @@ module _ (stand : FollowingDatabasesStand) (f : Dqbf) (commands left : List Scri
 
 -- a command that is no search
 file-stays : (b : DatabaseState) (command : ScriptCommand) → (database_behind b command).file ≡ b.file
-file-stays b push = refl
-file-stays b (add clause) = refl
 file-stays b pop = refl
-file-stays b solve = refl
+file-stays b _ = refl
 
 pub followed-change : DatabasesFollow → FollowingDatabasesStand → (f : Dqbf) (commands left : List ScriptCommand) (b : DatabaseState)
     (searches : List Search) (command : ScriptCommand) → is_search command ≡ false
@@ -107,18 +101,14 @@ followed-change follow stand f commands left b searches command change is =
   where
     formulas-stay : (c : ScriptCommand) → is_search c ≡ false
         → formulas_from f is.frames (c ∷ left) ≡ formulas_from f (frames_behind is.frames c) left
-    formulas-stay push h = refl
-    formulas-stay (add clause) h = refl
-    formulas-stay pop h = refl
     formulas-stay solve h = cc
+    formulas-stay _ h = refl
 
     live-stays : (c : ScriptCommand) → is_search c ≡ false
         → live_from (length f.matrix) is.numbering (c ∷ left)
         ≡ live_from (length f.matrix) (numbering_behind is.numbering c) left
-    live-stays push h = refl
-    live-stays (add clause) h = refl
-    live-stays pop h = refl
     live-stays solve h = cc
+    live-stays _ h = refl
 
 -- a search, which leaves the database's clauses
 pub followed-search : FollowingDatabasesStand → (f : Dqbf) (commands left : List ScriptCommand) (b : DatabaseState)

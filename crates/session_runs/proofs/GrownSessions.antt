@@ -8,16 +8,16 @@ use Rattle.list_laws.proofs.Options.{some_same, some_of}
 use Rattle.dq_lits.specs.Literal.{Literal, negative}
 use Rattle.dq_lits.specs.Formula.{Dqbf}
 use Rattle.hint_log.specs.Deciding.{DecidesTrue}
-use Rattle.hint_log.specs.Entries.{Entry, Named, Given, Learned, Answer, Round, Begun}
+use Rattle.hint_log.specs.Entries.{Entry, Named, Given, Answer, Round, Begun}
 use Rattle.hint_log.specs.Growth.{Each}
 use Rattle.hint_log.specs.Live.{with_matrix, formula_of, formula_by, live_numbers, live_formula, AreNumbers}
 use Rattle.hint_log.specs.Naming.{numbered_from_one}
 use Rattle.hint_log.specs.ProductiveLog.{IsRightlyNamed}
 use Rattle.hint_log.specs.ProductiveSession.{MatchesLiveOrigin, RefutesNewLiveRow, FollowsLiveModel, IsSinceBeginning, frame_of, AreGroupedByFrames, DecidesLiveTrue, IsUndecidedSince}
 use Rattle.hint_log.specs.declared.names.Name.{Name}
-use Rattle.hint_log.specs.declared.names.Name.TheVariants.{Selector, Pair, Input, And, Bad, Copy as CopyOf, Term}
+use Rattle.hint_log.specs.declared.names.Name.TheVariants.{Input}
 use Rattle.hint_log.specs.declared.origins.Origin.{Origin}
-use Rattle.hint_log.specs.declared.origins.Origin.TheVariants.{Instance, Gate, Fault, Copy, Link, TermGate, Differ}
+use Rattle.hint_log.specs.declared.origins.Origin.TheVariants.{Instance, Fault, Copy}
 use Rattle.hint_log.proofs.NamedEntries.{each_one, number_below}
 use Rattle.session_runs.specs.LargerSessions.{IsOfSearch, SessionsTakeClauses, UndecidedTakesClauses}
 
@@ -56,12 +56,8 @@ module _ (all : Dqbf) (more : List (List Literal)) where
   pub live-are : (es : List Entry) → Each (MatchesLiveOrigin all) es → (live : List ℕ)
       → live_numbers es ≡ Some live → AreNumbers all live
   live-are [] each live is = cc
-  live-are (Named v n ∷ es) each live is = live-are es each.1 live is
-  live-are (Given o c ∷ es) each live is = live-are es each.1 live is
-  live-are (Learned c hints ∷ es) each live is = live-are es each.1 live is
-  live-are (Answer c hints ∷ es) each live is = live-are es each.1 live is
-  live-are (Round row values j ∷ es) each live is = live-are es each.1 live is
   live-are (Begun l ∷ es) each live is = subst (AreNumbers all) (some_same l live is) each.0
+  live-are (_ ∷ es) each live is = live-are es each.1 live is
 
   same-formula : (es : List Entry) → Each (MatchesLiveOrigin all) es → IsSome (live_numbers es)
       → live_formula all es ≡ live_formula larger es
@@ -70,32 +66,21 @@ module _ (all : Dqbf) (more : List (List Literal)) where
       ap (formula_by all) is ∙ same-live live (live-are es each live is) ∙ sym (ap (formula_by larger) is)
 
   named-more : (n : Name) → IsRightlyNamed all n → IsRightlyNamed larger n
-  named-more (Selector g) h = tt
-  named-more (Pair k y) h = tt
   named-more (Input x) h = h
-  named-more (And a b) h = tt
-  named-more (Bad g j) h = tt
-  named-more (CopyOf side v) h = tt
-  named-more (Term a b) h = tt
+  named-more _ h = tt
 
   given-more : (es : List Entry) (o : Origin) (c : List Literal) → Each (MatchesLiveOrigin all) es
       → IsOfSearch es (Given o c) → MatchesLiveOrigin all es (Given o c) → MatchesLiveOrigin larger es (Given o c)
   given-more es (Instance k j) c before within m = search (arith, numbered-more)
-  given-more es (Gate v i) c before within m = search arith
   given-more es (Fault j i leaf) c before within m = search (arith, same-formula)
   given-more es (Copy side j) c before within m = search (arith, numbered-more)
-  given-more es (Link v i) c before within m = search arith
-  given-more es (TermGate v i) c before within m = search arith
-  given-more es (Differ y out part) c before within m = search arith
+  given-more es _ c before within m = search arith
 
   pub origins-more : (es : List Entry) → Each IsOfSearch es → Each (MatchesLiveOrigin all) es
       → Each (MatchesLiveOrigin larger) es
   origins-more [] within each = tt
   origins-more (Named v n ∷ es) within each = (named-more n each.0, origins-more es within.1 each.1)
   origins-more (Given o c ∷ es) within each = search (arith, given-more, (origins-more es within.1 each.1))
-  origins-more (Learned c hints ∷ es) within each = (tt, origins-more es within.1 each.1)
-  origins-more (Answer c hints ∷ es) within each = (tt, origins-more es within.1 each.1)
-  origins-more (Round row values j ∷ es) within each = (tt, origins-more es within.1 each.1)
   origins-more (Begun live ∷ es) within each =
       let long = length-larger in (
         record {
@@ -111,28 +96,21 @@ module _ (all : Dqbf) (more : List (List Literal)) where
           longer : {X : Type 0} (xs ys : List X) → length xs ≤ length (xs ++ ys)
           longer [] ys = omega arith
           longer (x ∷ xs) ys = let rest = longer xs ys in omega (arith, rest)
+  origins-more (_ ∷ es) within each = (tt, origins-more es within.1 each.1)
 
   pub rows-more : (es : List Entry) → Each IsOfSearch es → Each (MatchesLiveOrigin all) es
       → Each (RefutesNewLiveRow all) es → Each (RefutesNewLiveRow larger) es
   rows-more [] within each rows = tt
-  rows-more (Named v n ∷ es) within each rows = (tt, rows-more es within.1 each.1 rows.1)
-  rows-more (Given o c ∷ es) within each rows = (tt, rows-more es within.1 each.1 rows.1)
-  rows-more (Learned c hints ∷ es) within each rows = (tt, rows-more es within.1 each.1 rows.1)
-  rows-more (Answer c hints ∷ es) within each rows = (tt, rows-more es within.1 each.1 rows.1)
   rows-more (Round row values j ∷ es) within each rows =
       search (arith, same-formula, (rows-more es within.1 each.1 rows.1))
-  rows-more (Begun live ∷ es) within each rows = (tt, rows-more es within.1 each.1 rows.1)
+  rows-more (_ ∷ es) within each rows = (tt, rows-more es within.1 each.1 rows.1)
 
   pub models-more : (es : List Entry) → Each IsOfSearch es → Each (MatchesLiveOrigin all) es
       → Each (FollowsLiveModel all) es → Each (FollowsLiveModel larger) es
   models-more [] within each models = tt
-  models-more (Named v n ∷ es) within each models = (tt, models-more es within.1 each.1 models.1)
-  models-more (Given o c ∷ es) within each models = (tt, models-more es within.1 each.1 models.1)
-  models-more (Learned c hints ∷ es) within each models = (tt, models-more es within.1 each.1 models.1)
-  models-more (Answer c hints ∷ es) within each models = (tt, models-more es within.1 each.1 models.1)
   models-more (Round row values j ∷ es) within each models =
       search (arith, same-formula, (models-more es within.1 each.1 models.1))
-  models-more (Begun live ∷ es) within each models = (tt, models-more es within.1 each.1 models.1)
+  models-more (_ ∷ es) within each models = (tt, models-more es within.1 each.1 models.1)
 
   module _ (frames more_frames : List ℕ) (es : List Entry) (many : length frames ≡ length all.matrix)
       (each : Each (MatchesLiveOrigin all) es) where
@@ -171,9 +149,6 @@ module _ (all : Dqbf) (more : List (List Literal)) where
   undecided-more : (live : List ℕ) → AreNumbers all live → (es : List Entry) → live_numbers es ≡ Some live
       → IsUndecidedSince all es → IsUndecidedSince larger es
   undecided-more live numbers [] is undecided = tt
-  undecided-more live numbers (Named v n ∷ es) is undecided = undecided-more live numbers es is undecided
-  undecided-more live numbers (Given o c ∷ es) is undecided = undecided-more live numbers es is undecided
-  undecided-more live numbers (Learned c hints ∷ es) is undecided = undecided-more live numbers es is undecided
   undecided-more live numbers (Answer c hints ∷ es) is undecided = (
     undecided.0,
     λ d. undecided.1 (as-before d),
@@ -190,8 +165,8 @@ module _ (all : Dqbf) (more : List (List Literal)) where
       as-before d =
           let moved = subst Shows same (d.decides, d.current) in
           record { decides = moved.0; current = moved.1 }
-  undecided-more live numbers (Round row values j ∷ es) is undecided = undecided-more live numbers es is undecided
   undecided-more live numbers (Begun l ∷ es) is undecided = tt
+  undecided-more live numbers (_ ∷ es) is undecided = undecided-more live numbers es is undecided
 
 pub sessions-take-clauses : SessionsTakeClauses
 sessions-take-clauses all frames more more_frames es many within session =

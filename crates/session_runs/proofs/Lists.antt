@@ -1,5 +1,5 @@
 -- Lists by their ends, and what is found at numbers.
-use Rattle.std.proofs.Common.{◌≡◌, ℕ, zero, suc, ◌+◌, ◌-◌, ◌≤◌, ◌<◌, List, [], ◌∷◌, ◌++◌, map, take, drop, length, get_or, slice_get, Option, Some, None, refl, sym, ◌∙◌, ap, arith}
+use Rattle.std.proofs.Common.{◌≡◌, ℕ, zero, suc, ◌+◌, ◌-◌, ◌≤◌, ◌<◌, List, [], ◌∷◌, ◌++◌, map, take, drop, length, get_or, slice_get, Option, Some, refl, sym, ◌∙◌, ap, arith}
 use Rattle.std.specs.List.{filter_map, cons_option, range_with_len}
 use Rattle.std.proofs.lemmas.List.{length-append}
 use Rattle.hint_log.specs.Naming.{numbered_from_one}
@@ -19,14 +19,6 @@ front-taken (x ∷ xs) ys (suc n) is = ap (λ zs. x ∷ zs) (front-taken xs ys n
 -- the place of the last one of a list
 pub last-place : {X : Type 0} (below : List X) (x : X) → length (below ++ x ∷ []) - 1 ≡ length below
 last-place below x = let long = length-append below (x ∷ []) in omega (arith, long)
-
-abbrev first-of : {X : Type 0} → List (Option X) → Option X
-first-of [] = None
-first-of (o ∷ os) = o
-
-abbrev rest-of : {X : Type 0} → List X → List X
-rest-of [] = []
-rest-of (x ∷ xs) = xs
 
 -- what is found at each number
 pub all-found : {X : Type 0} (h : ℕ → Option X) (ns : List ℕ) (xs : List X) → map h ns ≡ map Some xs

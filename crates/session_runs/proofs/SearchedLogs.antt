@@ -1,9 +1,9 @@
 -- A session's log behind a search.
 use Rattle.std.proofs.Common.{◌≡◌, ◌⊎◌, inl, inr, ◌∷◌, [], List, ℕ, Result, Ok, Err, arith}
-use Rattle.hint_log.specs.Entries.{Entry, Named, Given, Learned, Answer, Round, Begun, ProofLog}
+use Rattle.hint_log.specs.Entries.{Entry, Given, Round, ProofLog}
 use Rattle.hint_log.specs.Growth.{Each}
 use Rattle.hint_log.specs.ProductiveSession.{IsProductiveSession}
-use Rattle.hint_log.specs.declared.origins.Origin.TheVariants.{Instance, Gate, Fault, Copy, Link, TermGate, Differ}
+use Rattle.hint_log.specs.declared.origins.Origin.TheVariants.{Fault}
 use Rattle.hint_log.specs.declared.stops.Stop.{Stop}
 use Rattle.hint_log.specs.declared.stops.Stop.TheVariants.{Memory, Limit}
 use Rattle.dq_lits.specs.Formula.{Dqbf}
@@ -20,18 +20,10 @@ use Rattle.session_runs.proofs.SearchEnds.{of-search-behind}
 -- faults and rounds are of a search, in either word
 pub same-searched : (es : List Entry) → Each IsOfItsSearch es → Each IsOfSearch es
 same-searched [] each = tt
-same-searched (Named v n ∷ es) each = (tt, same-searched es each.1)
-same-searched (Given (Instance k j) c ∷ es) each = (tt, same-searched es each.1)
-same-searched (Given (Gate v i) c ∷ es) each = (tt, same-searched es each.1)
 same-searched (Given (Fault j i leaf) c ∷ es) each = (each.0, same-searched es each.1)
-same-searched (Given (Copy side j) c ∷ es) each = (tt, same-searched es each.1)
-same-searched (Given (Link v i) c ∷ es) each = (tt, same-searched es each.1)
-same-searched (Given (TermGate v i) c ∷ es) each = (tt, same-searched es each.1)
-same-searched (Given (Differ y leaf part) c ∷ es) each = (tt, same-searched es each.1)
-same-searched (Learned c hints ∷ es) each = (tt, same-searched es each.1)
-same-searched (Answer c hints ∷ es) each = (tt, same-searched es each.1)
 same-searched (Round row values j ∷ es) each = (each.0, same-searched es each.1)
-same-searched (Begun live ∷ es) each = (tt, same-searched es each.1)
+same-searched (Given _ c ∷ es) each = (tt, same-searched es each.1)
+same-searched (_ ∷ es) each = (tt, same-searched es each.1)
 
 -- a session's log is of work
 pub session-work : (all : Dqbf) (frames : List ℕ) (es : List Entry) → IsProductiveSession all frames es

@@ -7,7 +7,7 @@ use Rattle.dq_lits.specs.Literal.{Literal}
 use Rattle.dq_lits.specs.Formula.{Dqbf}
 use Rattle.hint_log.specs.Live.{with_matrix, formula_of}
 use Rattle.hint_log.specs.Naming.{numbered_from_one}
-use Rattle.script_text.specs.Commands.{ScriptCommand, push, add, pop, solve}
+use Rattle.script_text.specs.Commands.{ScriptCommand, add, solve}
 use Rattle.script_text.specs.Frames.{Frames, clauses_of, formula_in, frames_behind, formulas_from}
 use Rattle.dq_session.specs.declared.live.Live.{Live}
 use Rattle.dq_session.specs.declared.live.OpenFrame.{OpenFrame}
@@ -53,23 +53,21 @@ following-databases-stand s frames b follows are = search (arith, live-numbers, 
 pub clauses-come : (s : Numbering) (commands : List ScriptCommand)
     → (more : List (List Literal)) × ((numbering_from s commands).clauses ≡ s.clauses ++ more)
 clauses-come s [] = ([], sym (append-nil s.clauses))
-clauses-come s (push ∷ commands) = clauses-come (numbering_behind s push) commands
 clauses-come s (add clause ∷ commands) =
     let r = clauses-come (numbering_behind s (add clause)) commands in
     (clause ∷ r.0, r.1 ∙ append_assoc s.clauses (clause ∷ []) r.0)
-clauses-come s (pop ∷ commands) = clauses-come (numbering_behind s pop) commands
 clauses-come s (solve ∷ commands) = clauses-come s commands
+clauses-come s (e ∷ commands) = clauses-come (numbering_behind s e) commands
 
 pub frames-come : (s : Numbering) (commands : List ScriptCommand)
     → (more : List ℕ) × ((numbering_from s commands).frames ≡ s.frames ++ more)
 frames-come s [] = ([], sym (append-nil s.frames))
-frames-come s (push ∷ commands) = frames-come (numbering_behind s push) commands
 frames-come s (add clause ∷ commands) =
     let r = frames-come (numbering_behind s (add clause)) commands in
     let n = newest_number s.open_frames in
     (n ∷ r.0, r.1 ∙ append_assoc s.frames (n ∷ []) r.0)
-frames-come s (pop ∷ commands) = frames-come (numbering_behind s pop) commands
 frames-come s (solve ∷ commands) = frames-come s commands
+frames-come s (e ∷ commands) = frames-come (numbering_behind s e) commands
 
 -- the formulas that are still to be searched
 named-from : (f : Dqbf) (s : Numbering) (frames : Frames) (commands : List ScriptCommand) (added : List (List Literal))
@@ -77,15 +75,10 @@ named-from : (f : Dqbf) (s : Numbering) (frames : Frames) (commands : List Scrip
     → map (formula_of (with_matrix f (numbering_from s commands).clauses)) (live_from (length f.matrix) s commands)
     ≡ formulas_from f frames commands
 named-from f s frames [] added is are = refl
-named-from f s frames (push ∷ commands) added is are =
-    named-from f (numbering_behind s push) (frames_behind frames push) commands added is
-    (frames-follow s frames push are)
 named-from f s frames (add clause ∷ commands) added is are =
     named-from f (numbering_behind s (add clause)) (frames_behind frames (add clause)) commands (added ++ clause ∷ [])
     (ap (λ cs. cs ++ clause ∷ []) is ∙ append_assoc f.matrix added (clause ∷ []))
     (frames-follow s frames (add clause) are)
-named-from f s frames (pop ∷ commands) added is are =
-    named-from f (numbering_behind s pop) (frames_behind frames pop) commands added is (frames-follow s frames pop are)
 named-from f s frames (solve ∷ commands) added is are =
     let more = clauses-come s commands in
     let all = (numbering_from s commands).clauses in
@@ -97,6 +90,8 @@ named-from f s frames (solve ∷ commands) added is are =
     (more.1 ∙ ap (λ m. m ++ more.0) is ∙ append_assoc f.matrix added more.0) grown in
     ap (λ g. g ∷ map (formula_of (with_matrix f all)) (live_from (length f.matrix) s commands)) here
     ∙ ap (λ gs. formula_in f frames ∷ gs) (named-from f s frames commands added is are)
+named-from f s frames (e ∷ commands) added is are =
+    named-from f (numbering_behind s e) (frames_behind frames e) commands added is (frames-follow s frames e are)
 
 pub numbers-name-formulas : NumbersNameFormulas
 numbers-name-formulas f commands =

@@ -20,7 +20,7 @@ use Rattle.session_runs.specs.Following.{database_behind, MayCome}
 use Rattle.session_runs.specs.Laws.{DatabasesFollow, FollowingDatabasesStand}
 use Rattle.session_runs.specs.LargerSessions.{SessionsTakeClauses, UndecidedTakesClauses}
 use Rattle.session_runs.specs.Numbering.{all_clauses}
-use Rattle.verdict_texts.specs.Verdicts.{Verdict, is_true, is_false, is_unknown}
+use Rattle.verdict_texts.specs.Verdicts.{Verdict, is_unknown}
 use Rattle.session_runs.specs.Blocks.{Search, block_text, blocks_text}
 use Rattle.session_runs.specs.Followed.{is_search, IsFollowed}
 use Rattle.session_runs.specs.ScriptFiles.{IsSessionText}
@@ -38,10 +38,8 @@ next-left : (commands : List ScriptCommand) (place : ℕ) (c : ScriptCommand) �
 next-left commands place c is = search (arith, drop-at)
 
 pub search-is : (c : ScriptCommand) → is_search c ≡ true → c ≡ solve
-search-is push is = cc
-search-is (add clause) is = cc
-search-is pop is = cc
 search-is solve is = refl
+search-is _ is = cc
 
 -- the search state stays ready
 ready-behind : FramesOpen → FramesClose → ClausesCome → (b : DatabaseState) (d : SearchState) (g : AigGraph) (es : List Entry)
@@ -65,9 +63,6 @@ module _ (stand : FollowingDatabasesStand) (commands : List ScriptCommand) (plac
 
   pub may-take : MayCome s.database c
   may-take = may-come stand s.file.now commands (drop (place + 1) commands) s.database is.searches c followed
-
-  pub few-clauses : length (all_of s.database).matrix ≤ max_clauses
-  few-clauses = search arith
 
   -- want of memory ends the run with a session's log
   pub work-of : (new : ProofLog) → IsSoFar s.database new.entries → IsWorkOf s.file.now commands new
@@ -120,9 +115,8 @@ shown-whole : (all whole : Dqbf) (log : ProofLog) (f : Dqbf) (v : Verdict)
     → (IsUndecidedSince all log.entries
     → IsUndecidedSince whole log.entries)
     → IsShown all log f v → IsShown whole log f v
-shown-whole all whole log f (is_true file proof) more shown = shown
-shown-whole all whole log f (is_false d) more shown = shown
 shown-whole all whole log f (is_unknown rounds learned) more shown = search arith
+shown-whole all whole log f _ more shown = shown
 
 same-all : (b c : DatabaseState) → IsDatabaseAfter b c → all_of c ≡ all_of b
 same-all b c after = ap all_of after.same

@@ -1,5 +1,5 @@
--- What numbering is for: the numbers of a search's clauses name its formula, and a database that takes
--- each command has these clauses.
+-- What numbering is for: the numbers of a search's clauses name its formula, and a database that
+-- takes each command has these clauses.
 use Rattle.std.specs.Prelude.{◌≡◌, List, map, length}
 use Rattle.dq_lits.specs.Formula.{Dqbf}
 use Rattle.hint_log.specs.Live.{with_matrix, formula_of}

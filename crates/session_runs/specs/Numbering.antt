@@ -1,6 +1,6 @@
--- The clauses of a session by their numbers. Clauses are numbered from 1 on over the formula and all
--- that a script adds, those that it takes away again too; frames are numbered from 1 on as they are
--- opened, and the formula is frame 0.
+-- The clauses of a session by their numbers. Clauses are numbered from 1 on over the formula and
+-- all that a script adds, those that it takes away again too; frames are numbered from 1 on as they
+-- are opened, and the formula is frame 0.
 use Rattle.std.specs.Prelude.{ℕ, ◌+◌, List, [], ◌∷◌, ◌++◌, length, replicate}
 use Rattle.std.specs.List.{range_with_len}
 use Rattle.dq_lits.specs.Literal.{Literal}
@@ -13,8 +13,8 @@ pub record NumberedFrame : Type 0 where
   pub number : ℕ
   pub clauses : List ℕ
 
--- all clauses so far, each with its frame; how many frames were opened; and those that are open, the
--- newest first
+-- all clauses so far, each with its frame; how many frames were opened; and those that are open,
+-- the newest first
 pub record Numbering : Type 0 where
   pub clauses : List (List Literal)
   pub frames : List ℕ

@@ -25,8 +25,8 @@ pub record IsCutOff (all f : Dqbf) (log : ProofLog) (rounds learned : ℕ) : Typ
   pub steps_are : rounds + learned ≡ steps_of log.entries
 
 -- the verdict on a formula, by the log at the end of its search: a circuit that is made of Skolem
--- functions, or a refutation whose rows' instances have no model, each such that the checker accepts
--- the text; or the log's own counts
+-- functions, or a refutation whose rows' instances have no model, each such that the checker
+-- accepts the text; or the log's own counts
 abbrev pub IsShown : Dqbf → ProofLog → Dqbf → Verdict → Type 0
 IsShown all log f (is_true file proof) = IsShownTrue f f log plain file proof
 IsShown all log f (is_false d) = IsShownFalse f f (last_live log.entries) log plain d

@@ -94,8 +94,8 @@ pub record IsSessionOutput (before now : FilesState) (log : ProofLog) (file scri
   pub long : output.status ≡ 6 → max_formula < now.given
   pub unfaulted : output.status ≢ 3 → now.faults ≡ before.faults
 
--- productive work over these clauses; how groups go by frames isn't said, as want of memory may have
--- come between a group and its frame
+-- productive work over these clauses; how groups go by frames isn't said, as want of memory may
+-- have come between a group and its frame
 pub record IsWorkOver (all : Dqbf) (entries : List Entry) : Type 0 where
   pub kept : IsKept all entries
   pub lemmas_are_derived : Each IsDerivedByHints entries
