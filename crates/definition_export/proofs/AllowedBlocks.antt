@@ -22,12 +22,11 @@ use Rattle.cert_text.specs.Grammar.{AreSteps}
 use Rattle.cert_text.specs.Header.{max_count}
 use Rattle.cert_text.specs.Variables.{is_up_to}
 use Rattle.defined_checker.specs.DefinitionReads.{definition_netlist, IsRead}
-use Rattle.definition_proofs.specs.Shown.{ReadsCopy, itself as reads_itself, left as reads_left, right as reads_right, TermLeafReads}
+use Rattle.definition_proofs.specs.Shown.{ReadsCopy, itself as reads_itself, left as reads_left, right as reads_right, TermLeafReads, IsDeclaredCopy, IsLeafDeclared}
 use Rattle.cert_export.specs.CircuitPart.{aiger_literal, leaf_code, literal_code, or_zero}
 use Rattle.cert_export.specs.Renaming.{Renaming}
 use Rattle.cert_export.proofs.CircuitNumbers.{position_below}
 use Rattle.definition_export.specs.ExportedDefinition.{definition_renaming, exported_definition, exported_gates, term_gate}
-use Rattle.definition_proofs.specs.Shown.{IsDeclaredCopy, IsLeafDeclared}
 use Rattle.definition_export.specs.Exporting.{IsLeafListed, IsTermBefore}
 use Rattle.definition_export.specs.Parts.{AreDefinitionIds}
 use Rattle.definition_export.proofs.BlockLines.{inside_before, term_in_log}

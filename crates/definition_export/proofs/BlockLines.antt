@@ -1,4 +1,5 @@
--- An answer that shows a definition is exported as a block whose proof the checker accepts and that a text can hold.
+-- An answer that shows a definition is exported as a block whose proof the checker accepts and that
+-- a text can hold.
 use Rattle.std.proofs.Common.{◌≡◌, nat_le, ℕ, ◌+◌, ◌≤◌, true, false, List, [], ◌∷◌, ◌++◌, length, Option, None, Some, refl, sym, ◌∙◌, ap, subst, arith, append_assoc}
 use Rattle.std.specs.List.{Contains}
 use Rattle.std.proofs.lemmas.Bool.{and_from, le-leb}
@@ -16,7 +17,7 @@ use Rattle.hint_log.specs.declared.names.Name.TheVariants.{Selector, Term}
 use Rattle.hint_log.specs.declared.origins.Leaf.{Leaf}
 use Rattle.hint_log.specs.declared.origins.Leaf.TheVariants.{Literal as LeafLiteral}
 use Rattle.hint_log.specs.declared.origins.Origin.{Origin}
-use Rattle.hint_log.specs.declared.origins.Origin.TheVariants.{Instance, Gate as GateOf, Fault, Copy, Link, TermGate, Differ}
+use Rattle.hint_log.specs.declared.origins.Origin.TheVariants.{Copy, Link, TermGate, Differ}
 use Rattle.cert_text.specs.AllowedDefinitions.{first_definition_id}
 use Rattle.cert_text.specs.DefinitionBlocks.{Definition}
 use Rattle.cert_text.specs.Variables.{is_up_to}
@@ -71,13 +72,10 @@ module _ (f : Dqbf) (entries : List Entry) (id : ℕ) (ids : List ℕ) (y : ℕ)
       by_origin origin (d.can.shown.rests origin c there) at (d.can.givens h origin c reached at) where
         by_origin : (o : Origin) → IsDefinitionGiven y leaf o → numbered has_id entries h ≡ Some (Given o c) →
             IsGivenRightly f entries o c → IsUsable o c
-        by_origin (Instance k j) mine at right = absurd mine
-        by_origin (GateOf v i) mine at right = absurd mine
-        by_origin (Fault j i out) mine at right = absurd mine
         by_origin (Copy side j) mine at right = (mine, right)
-        by_origin (Link v i) mine at right = absurd mine
         by_origin (TermGate v i) mine at right = (d.block.used h v i c reached at, right)
         by_origin (Differ x out part) mine at right = (mine, right)
+        by_origin _ mine at right = absurd mine
 
   own : is_declared f y ≡ true
   own = existential_declared f y d.can.existential
@@ -96,13 +94,8 @@ module _ (f : Dqbf) (entries : List Entry) (id : ℕ) (ids : List ℕ) (y : ℕ)
 
     rightly : (o : Origin) (c : List Literal) → IsUsable o c → (more es : List Entry) →
         entries ≡ more ++ Given o c ∷ es → IsOriginsClause f es o c
-    rightly (Instance k j) c mine more es is = mine.1 more es is
-    rightly (GateOf v i) c mine more es is = mine.1 more es is
-    rightly (Fault j i out) c mine more es is = mine.1 more es is
-    rightly (Copy side j) c mine more es is = mine.1 more es is
     rightly (Link v i) c mine more es is = mine.1 more es is
-    rightly (TermGate v i) c mine more es is = mine.1 more es is
-    rightly (Differ x out part) c mine more es is = mine.1 more es is
+    rightly _ c mine more es is = mine.1 more es is
 
     same : (es more : List Entry) → entries ≡ more ++ es → (c : List Literal) (g : ℕ) (rest : List Literal) →
         c ≡ negative g ∷ rest → name_of es g ≡ Some (Selector g) → renamed_clause target c ≡ renamed_clause target rest
@@ -115,10 +108,6 @@ module _ (f : Dqbf) (entries : List Entry) (id : ℕ) (ids : List ℕ) (y : ℕ)
         IsOriginsClause f es origin c → IsUsable origin c →
         (definition_base f block (definition_id f gates origin) ≡ Some (renamed_clause target c)) ×
         (definition_id f gates origin ≤ last_definition_id f gates)
-    clause_right es more is (Instance k j) c o mine = absurd mine.0
-    clause_right es more is (GateOf v i) c o mine = absurd mine.0
-    clause_right es more is (Fault j i out) c o mine = absurd mine.0
-    clause_right es more is (Link v i) c o mine = absurd mine.0
     clause_right es more is (Copy side j) c o mine =
         let g = copy_right f entries y leaf gates steps d.well_formed d.logged d.can.sides d.can.leaf_declared
         d.block.order inside_before d.block.leaf_listed own es more is j o.rest
@@ -134,6 +123,7 @@ module _ (f : Dqbf) (entries : List Entry) (id : ℕ) (ids : List ℕ) (y : ℕ)
         let g = differ_right f entries y leaf gates steps d.well_formed d.logged d.can.sides d.can.leaf_declared
         d.block.order inside_before d.block.leaf_listed own es more is part o.rest o.rest_is.0 rest in
         (g.0 ∙ ap Some (sym (same es more is c o.group o.rest o.clause_is o.is_group)), g.1)
+    clause_right es more is _ c o mine = absurd mine.0
 
     pub base_clause : (h : ℕ) (origin : Origin) (c : List Literal) →
         numbered has_id entries h ≡ Some (Given origin c) → IsUsable origin c →

@@ -1,8 +1,9 @@
--- Needed gates by their places: the greatest is taken out, and what its gate reads is added, until none waits.
-use Rattle.std.proofs.Common.{◌≡◌, ℕ, zero, suc, ◌+◌, ◌<◌, ◌==◌, ◌⊎◌, true, false, true≢false, cond, List, [], ◌∷◌, ◌++◌, length, get_or, slice_get, slice_index, OnOk, Result, Ok, Err, Some, Contains, inl, inr, refl, sym, ap, ◌∙◌, subst, arith}
+-- Needed gates by their places: the greatest is taken out, and what its gate reads is added, until
+-- none waits.
+use Rattle.std.proofs.Common.{◌≡◌, ℕ, zero, suc, ◌+◌, ◌<◌, ◌==◌, ◌⊎◌, true, false, true≢false, List, [], ◌∷◌, ◌++◌, length, get_or, slice_get, slice_index, OnOk, Result, Ok, Err, Some, Contains, inl, inr, refl, sym, ap, ◌∙◌, subst, arith}
 use Rattle.std.specs.List.{All}
 use Rattle.std.specs.List.Sorted.{IsStrictlyIncreasing}
-use Rattle.std.proofs.lemmas.Bool.{cases_Bool, eqb-true, eqb-false, eq-eqb}
+use Rattle.std.proofs.lemmas.Bool.{cases_Bool, eqb-true, eqb-false}
 use Rattle.std.proofs.lemmas.List.{get_or_default}
 use Rattle.std.proofs.lemmas.List.Elements.{All-push}
 use Rattle.std.proofs.lemmas.Option.{slice_get-get_or}
@@ -10,15 +11,8 @@ use Rattle.dq_lits.specs.Literal.{Literal, variable_of}
 use Rattle.dq_lits.specs.declared.memory.Memory.{Memory}
 use Rattle.hint_log.specs.Entries.{Entry, name_of}
 use Rattle.hint_log.specs.declared.names.Name.TheVariants.{Term}
-use Rattle.number_tables.specs.Numbers.{place_of}
 use Rattle.definition_export.specs.Closing.{is_waiting, Takes, IsWithPlace, IsSidePlace, IsWithSides, IsGateWaiting, AreWithin, AreClosed, AreTermNames}
 use Rattle.definition_export.specs.declared.places.PlaceSet.{PlaceSet}
-
--- one place more
-module _ (terms : List ℕ) (variable place : ℕ) (old new : PlaceSet)
-    (is : (p : ℕ) → is_waiting new p ≡ cond (place == p) true (is_waiting old p)) where
-  pub place_added : place_of terms variable ≡ Some place → IsWithPlace terms variable old new
-  place_added at = search (arith, eq-eqb, eqb-true)
 
 -- both sides of a gate were added
 pub sides_added : (entries : List Entry) (terms : List ℕ) (place v : ℕ) (a b : Literal) (old mid new : PlaceSet) →

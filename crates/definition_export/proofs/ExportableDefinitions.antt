@@ -1,4 +1,5 @@
--- Answers that show definitions can be exported, and what is exported of them is such as it should be.
+-- Answers that show definitions can be exported, and what is exported of them is such as it should
+-- be.
 use Rattle.std.proofs.Common.{◌≡◌, ℕ, zero, suc, ◌≤◌, true, List, ◌∷◌, length, get_or, IfOk, Result, Ok, Err, Option, None, Some, IsSome, refl, sym, ◌∙◌, ap, subst, arith}
 use Rattle.std.specs.List.{All, Contains}
 use Rattle.std.specs.Option.{option_and_then}
@@ -17,7 +18,7 @@ use Rattle.hint_log.specs.declared.names.Name.{Name}
 use Rattle.hint_log.specs.declared.names.Name.TheVariants.{Term}
 use Rattle.hint_log.specs.declared.origins.Leaf.{Leaf}
 use Rattle.hint_log.specs.declared.origins.Origin.{Origin}
-use Rattle.hint_log.specs.declared.origins.Origin.TheVariants.{Instance, Gate as GateOf, Fault, Copy, Link, TermGate, Differ}
+use Rattle.hint_log.specs.declared.origins.Origin.TheVariants.{Copy, TermGate, Differ}
 use Rattle.hint_log.proofs.NamedEntries.{number_below}
 use Rattle.circuit_plain.specs.declared.circuits.Gate.{Gate}
 use Rattle.log_laws.proofs.Found.{each_at, split_at}
@@ -72,13 +73,10 @@ module _ (f : Dqbf) (entries : List Entry) (id : ℕ) (ids : List ℕ) (y : ℕ)
 
         by_origin : {es : List Entry} (o : Origin) → numbered has_id entries h ≡ Some (Given o c) →
             IsUsable f entries id ids y leaf gates d o c → IsOriginsClause f es o c → HasDefinitionId f gates o
-        by_origin (Instance k j) at mine own = absurd mine.0
-        by_origin (GateOf v i) at mine own = absurd mine.0
-        by_origin (Fault j i out) at mine own = absurd mine.0
-        by_origin (Link v i) at mine own = absurd mine.0
         by_origin (Copy side j) at mine own = search (arith, number_below)
         by_origin (TermGate v i) at mine own = search arith
         by_origin (Differ x out part) at mine own = search arith
+        by_origin _ at mine own = absurd mine.0
 
   pub can_be_written : (r : Renaming) → IsRenamingOf (definition_renaming f entries gates) entries ids r →
       CanBeWritten r (HasDefinitionId f gates) entries ids

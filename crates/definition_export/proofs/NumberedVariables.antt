@@ -12,7 +12,7 @@ use Rattle.hint_log.specs.Conditions.{is_term_name, MayFollow}
 use Rattle.hint_log.specs.Entries.{Entry, name_of}
 use Rattle.hint_log.specs.Growth.{Each}
 use Rattle.hint_log.specs.declared.names.Name.{Name}
-use Rattle.hint_log.specs.declared.names.Name.TheVariants.{Selector, Pair, Input, And, Bad, Copy as CopyOf, Term}
+use Rattle.hint_log.specs.declared.names.Name.TheVariants.{Copy as CopyOf, Term}
 use Rattle.hint_log.proofs.Lawful.{names_are_unique_lem}
 use Rattle.cert_export.specs.CircuitPart.{place_from_one}
 use Rattle.cert_export.specs.Renaming.{IsInjective}
@@ -42,11 +42,6 @@ module _ (f : Dqbf) (gates : List ℕ) where
 
   pub number_cases : (v : ℕ) (o : Option Name) (x : ℕ) → definition_number f gates v o ≡ Some x → IsNumbered v o x
   number_cases v None x h = cc
-  number_cases v (Some (Selector g)) x h = cc
-  number_cases v (Some (Pair k y)) x h = cc
-  number_cases v (Some (Input u)) x h = cc
-  number_cases v (Some (And a b)) x h = cc
-  number_cases v (Some (Bad g j)) x h = cc
   number_cases v (Some (CopyOf side u)) x h = search (arith, and_parts, eqb-true)
   number_cases v (Some (Term a b)) x h = by_option (place_from_one gates v) refl h where
     by_option : (o : Option ℕ) → place_from_one gates v ≡ o → option_map (λ p. f.variables + p) o ≡ Some x →
@@ -54,6 +49,7 @@ module _ (f : Dqbf) (gates : List ℕ) where
     by_option None is h = cc
     by_option (Some n) is h = let same : f.variables + n ≡ x = cc in
         inr (n, place_parts gates v n is, sym same, a, b, refl)
+  number_cases v (Some _) x h = cc
 
   pub number_bounds : IsWellFormed f → (v : ℕ) (o : Option Name) (x : ℕ) → definition_number f gates v o ≡ Some x →
       (1 ≤ x) × (x ≤ f.variables + length gates)
@@ -108,14 +104,10 @@ module _ (f : Dqbf) (gates : List ℕ) where
     by_option : (o : Option Name) → name_of entries (variable_of l) ≡ o → is_term_name o ≡ true →
         HasNumber (definition_renaming f entries gates) l
     by_option None is h = cc
-    by_option (Some (Selector g)) is h = cc
-    by_option (Some (Pair k y)) is h = cc
-    by_option (Some (Input x)) is h = cc
-    by_option (Some (And a b)) is h = cc
-    by_option (Some (Bad g j)) is h = cc
     by_option (Some (CopyOf side x)) is h = by_side side x is (side == 1) refl h
     by_option (Some (Term a b)) is h = record {
       number = f.variables + (position_or_len (λ z. z == variable_of l) gates + 1);
       is = gate_numbered entries (variable_of l) a b is (gate a b is);
       from_one = omega arith;
     }
+    by_option (Some _) is h = cc

@@ -12,7 +12,7 @@ use Rattle.hint_log.specs.Conditions.{is_term_name, HasSides, MayFollow}
 use Rattle.hint_log.specs.Entries.{Entry, Named, Given, Learned, Answer, Round, Begun, count, name_of, names_of}
 use Rattle.hint_log.specs.Growth.{Each}
 use Rattle.hint_log.specs.declared.names.Name.{Name}
-use Rattle.hint_log.specs.declared.names.Name.TheVariants.{Selector, Pair, Input, And, Bad, Copy as CopyOf, Term}
+use Rattle.hint_log.specs.declared.names.Name.TheVariants.{Pair, Input, Copy as CopyOf, Term}
 use Rattle.log_laws.proofs.ReachedClauses.{name_stays}
 use Rattle.number_tables.specs.Numbers.{has_number, place_of}
 use Rattle.definition_export.specs.Closing.{AreTermNames}
@@ -37,11 +37,7 @@ with_terms_snoc terms (x ∷ names) named = with_terms_snoc (with_term terms x) 
 terms_are : (es : List Entry) → with_terms [] (names_of es) ≡ terms_over es
 terms_are [] = refl
 terms_are (Named v n ∷ es) = with_terms_snoc [] (names_of es) (v, n) ∙ ap (λ ts. with_term ts (v, n)) (terms_are es)
-terms_are (Given origin c ∷ es) = terms_are es
-terms_are (Learned c hints ∷ es) = terms_are es
-terms_are (Answer c hints ∷ es) = terms_are es
-terms_are (Round row values j ∷ es) = terms_are es
-terms_are (Begun live ∷ es) = terms_are es
+terms_are (_ ∷ es) = terms_are es
 
 -- a name more: that of a gate over first copies, or another one
 data IsNext (old : List ℕ) (u : ℕ) (n : Name) : Type 0 where
@@ -50,12 +46,10 @@ data IsNext (old : List ℕ) (u : ℕ) (n : Name) : Type 0 where
 
 next : (old : List ℕ) (u : ℕ) (n : Name) → has_number old u ≡ false → IsNext old u n
 next old u (Term a b) new = term a b refl (cond-false (has_number old u) old (old ++ u ∷ []) new)
-next old u (And a b) new = other refl (λ x y e. cc)
-next old u (Selector g) new = other refl (λ x y e. cc)
 next old u (Pair k y) new = other refl (λ x z e. cc)
 next old u (Input x) new = other refl (λ y z e. cc)
-next old u (Bad g j) new = other refl (λ x y e. cc)
 next old u (CopyOf side x) new = other refl (λ y z e. cc)
+next old u _ new = other refl (λ x y e. cc)
 
 abbrev IsTermName : List Entry → ℕ → Type 0
 IsTermName es v = (a : Literal) × (b : Literal) × (name_of es v ≡ Some (Term a b))
@@ -96,11 +90,7 @@ term_sides (Named w n ∷ es) v a b lawful h = by_bit (term_sides es v a b lawfu
       let s : HasSides es (Term a b) = subst (HasSides es) is lawful.0.sides in
       (kept (variable_of a) s.0, kept (variable_of b) s.1)
   by_bit later false k = let s = later k in (kept (variable_of a) s.0, kept (variable_of b) s.1)
-term_sides (Given origin c ∷ es) v a b lawful h = term_sides es v a b lawful.1 h
-term_sides (Learned c hints ∷ es) v a b lawful h = term_sides es v a b lawful.1 h
-term_sides (Answer c hints ∷ es) v a b lawful h = term_sides es v a b lawful.1 h
-term_sides (Round row values j ∷ es) v a b lawful h = term_sides es v a b lawful.1 h
-term_sides (Begun live ∷ es) v a b lawful h = term_sides es v a b lawful.1 h
+term_sides (_ ∷ es) v a b lawful h = term_sides es v a b lawful.1 h
 
 -- a side of a gate has a name
 side_named : (es : List Entry) (v : ℕ) (a b l : Literal) → Each MayFollow es → name_of es v ≡ Some (Term a b) →
@@ -148,9 +138,6 @@ module _ (u : ℕ) (n : Name) (es : List Entry) (lawful : Each MayFollow (Named 
   -- the new variable has no name before
   not_named : (v : ℕ) → IsSome (name_of es v) → u ≡ v → ⊥
   not_named v there same = let none : name_of es v ≡ None = ap (name_of es) (sym same) ∙ lawful.0.unnamed in cc
-
-  named_other : (v : ℕ) → IsSome (name_of es v) → v ≡ u → ⊥
-  named_other v there same = not_named v there (sym same)
 
   listed_other : new ≡ old → ((a b : Literal) → n ≡ Term a b → ⊥) → IsListed (Named u n ∷ es)
   listed_other is none = record {
@@ -238,36 +225,19 @@ listed [] lawful = record {
   ordered = λ p q v a b l at named either side. cc;
 }
 listed (Named u n ∷ es) lawful = listed_more u n es lawful (listed es lawful.1)
-listed (Given origin c ∷ es) lawful = let h = listed es lawful.1 in
-    record { named = h.named; there = h.there; distinct = h.distinct; ordered = h.ordered }
-listed (Learned c hints ∷ es) lawful = let h = listed es lawful.1 in
-    record { named = h.named; there = h.there; distinct = h.distinct; ordered = h.ordered }
-listed (Answer c hints ∷ es) lawful = let h = listed es lawful.1 in
-    record { named = h.named; there = h.there; distinct = h.distinct; ordered = h.ordered }
-listed (Round row values j ∷ es) lawful = let h = listed es lawful.1 in
-    record { named = h.named; there = h.there; distinct = h.distinct; ordered = h.ordered }
-listed (Begun live ∷ es) lawful = let h = listed es lawful.1 in
+listed (_ ∷ es) lawful = let h = listed es lawful.1 in
     record { named = h.named; there = h.there; distinct = h.distinct; ordered = h.ordered }
 
 -- there are as many as names
 few_more : (old : List ℕ) (u : ℕ) (n : Name) (m : ℕ) → has_number old u ≡ false → length old ≤ m →
     length (with_term old (u, n)) ≤ cond (is_term_entry (Named u n)) (m + 1) m
 few_more old u (Term a b) m new h = search (arith, length-append, cond-false)
-few_more old u (And a b) m new h = h
-few_more old u (Selector g) m new h = h
-few_more old u (Pair k y) m new h = h
-few_more old u (Input x) m new h = h
-few_more old u (Bad g j) m new h = h
-few_more old u (CopyOf side x) m new h = h
+few_more old u _ m new h = h
 
 few_over : (es : List Entry) → Each MayFollow es → length (terms_over es) ≤ count is_term_entry es
 few_over [] lawful = omega arith
 few_over (Named u n ∷ es) lawful = search (arith, few_more, (few_over es lawful.1))
-few_over (Given origin c ∷ es) lawful = few_over es lawful.1
-few_over (Learned c hints ∷ es) lawful = few_over es lawful.1
-few_over (Answer c hints ∷ es) lawful = few_over es lawful.1
-few_over (Round row values j ∷ es) lawful = few_over es lawful.1
-few_over (Begun live ∷ es) lawful = few_over es lawful.1
+few_over (_ ∷ es) lawful = few_over es lawful.1
 
 pub few_terms : (es : List Entry) (terms : List ℕ) → Each MayFollow es → terms ≡ with_terms [] (names_of es) →
     length terms ≤ count is_term_entry es

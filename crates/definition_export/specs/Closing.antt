@@ -1,5 +1,5 @@
--- Words of private contracts: gates that are needed, by their places in the order, with all that they
--- read.
+-- Words of private contracts: gates that are needed, by their places in the order, with all that
+-- they read.
 use Rattle.std.specs.Prelude.{◌≡◌, ◌⊎◌, ◌<◌, ℕ, Bool, true, List, length, Some, slice_get}
 use Rattle.std.specs.List.{AllPairs, Contains}
 use Rattle.std.specs.List.Sorted.{IsStrictlyIncreasing}

@@ -1,6 +1,6 @@
--- A definition as a block has it, and the clauses that its proof starts from: the formula's variables
--- have their own numbers, those of their first copies in the log, and gates stand behind them in the
--- block's order.
+-- A definition as a block has it, and the clauses that its proof starts from: the formula's
+-- variables have their own numbers, those of their first copies in the log, and gates stand behind
+-- them in the block's order.
 use Rattle.std.specs.Prelude.{ℕ, ◌+◌, ◌*◌, ◌==◌, ◌&&◌, List, map, length, Option, None, Some, if◌then◌else◌}
 use Rattle.std.specs.List.{position_or_len}
 use Rattle.std.specs.Option.{option_map}
@@ -45,8 +45,8 @@ exported_definition f entries y leaf gates steps = record {
   steps = steps;
 }
 
--- the id of a given clause: the matrix, three clauses for each gate, and that the existential and the
--- output differ
+-- the id of a given clause: the matrix, three clauses for each gate, and that the existential and
+-- the output differ
 abbrev pub definition_id : Dqbf → List ℕ → Origin → ℕ
 definition_id f gates (Copy side j) = j
 definition_id f gates (TermGate v i) =

@@ -22,9 +22,9 @@ use Rattle.definition_proofs.specs.Shown.{IsLeafDeclared, IsShownDefinition, Rea
 use Rattle.cert_export.specs.Given.{EachGivenReached, IsGivenRightly}
 use Rattle.cert_export.specs.Lines.{is_lemma}
 
--- the last entry is an answer that shows a definition, and what the export reads of the log is right
--- by the formula: what gates and leaf read, and the given clauses that the answer rests on; every
--- lemma is derived
+-- the last entry is an answer that shows a definition, and what the export reads of the log is
+-- right by the formula: what gates and leaf read, and the given clauses that the answer rests on;
+-- every lemma is derived
 pub record CanExportDefinition (f : Dqbf) (entries : List Entry) (id y : ℕ)
     (leaf : Leaf) : Type 0 where
   pub shown : IsShownDefinition entries y leaf id
@@ -61,8 +61,8 @@ IsLeafListed entries gates (LeafLiteral l) =
     (a b : Literal) → name_of entries (variable_of l) ≡ Some (Term a b)
     → Contains gates (variable_of l)
 
--- gates over first copies, each once and behind those that it reads, among them the leaf's and those
--- whose clauses the answer reaches
+-- gates over first copies, each once and behind those that it reads, among them the leaf's and
+-- those whose clauses the answer reaches
 pub record AreBlockGates (entries : List Entry) (id : ℕ) (leaf : Leaf) (gates : List ℕ) : Type 0 where
   pub named : (v : ℕ) → Contains gates v
       → (a : Literal) × (b : Literal) × (name_of entries v ≡ Some (Term a b))
