@@ -8,11 +8,9 @@ use Rattle.dq_lits.specs.Derivation.{LiveClauses, MakesTrue, holds, IsDerived}
 use Rattle.dq_lits.proofs.Truth.{same_literal-sound}
 use Rattle.dq_lits.proofs.HeldLiterals.{held_of_all, holds_here, holds_later}
 use Rattle.dq_lits.proofs.LiftedExpansion.{literal_true-agree}
-use Rattle.hint_log.specs.Entries.{Entry}
-use Rattle.hint_log.specs.Entries.{Named, Given, Learned, Answer, Round, Begun}
+use Rattle.hint_log.specs.Entries.{Entry, Named, Given, Learned, Answer, ProofLog, clause_at, clause_of, name_of, last_id, has_id, numbered}
 use Rattle.hint_log.specs.declared.names.Name.{Name}
 use Rattle.hint_log.specs.declared.names.Name.TheVariants.{Selector}
-use Rattle.hint_log.specs.Entries.{ProofLog, clause_at, clause_of, name_of, last_id, has_id, numbered}
 use Rattle.hint_log.specs.Conditions.{MayFollow}
 use Rattle.hint_log.specs.Growth.{Each}
 use Rattle.hint_log.specs.Naming.{is_selector, is_selector_name}
@@ -62,11 +60,7 @@ name_step es (Named w name) lawful v n h =
       | inl e ↦ let k : None ≡ Some n = sym lawful.unnamed ∙ ap (name_of es) (sym e) ∙ h in cc
       | inr other ↦ ap (λ b. cond b (Some name) (name_of es v)) (ne_eqb v w other) ∙ h
     ]
-name_step es (Given o c) lawful v n h = h
-name_step es (Learned c hs) lawful v n h = h
-name_step es (Answer c hs) lawful v n h = h
-name_step es (Round r vs j) lawful v n h = h
-name_step es (Begun live) lawful v n h = h
+name_step es _ lawful v n h = h
 
 module _ (all : List Entry) (assumptions : List Literal) (m : Assignment) where
   -- selectors that aren't switched on
@@ -136,9 +130,6 @@ module _ (all : List Entry) (assumptions : List Literal) (m : Assignment) where
       Each IsDerivedByHints es
       → MakesActiveTrue m es assumptions → MakesTrue switched_off (clause_at es)
   all_true implies [] keeps lawful grouped derived active = λ id c at. let n : None ≡ Some c = at in cc
-  all_true implies (Named v n ∷ es) keeps lawful grouped derived active =
-      all_true implies es (λ w k h. keeps w k (name_step es (Named v n) lawful.0 w k h)) lawful.1 grouped.1 derived.1
-      (λ o g rest h on. active o g rest (contains_later (Named v n) (Given o (negative g ∷ rest)) es h) on)
   all_true implies (Given origin c ∷ es) keeps lawful grouped derived active =
       let rest_true = all_true implies es (λ w k h. keeps w k (name_step es (Given origin c) lawful.0 w k h)) lawful.1
       grouped.1 derived.1
@@ -159,12 +150,9 @@ module _ (all : List Entry) (assumptions : List Literal) (m : Assignment) where
       (λ o g rest h on. active o g rest (contains_later (Answer c hs) (Given o (negative g ∷ rest)) es h) on) in
       one_more_true es (Answer c hs) c refl refl switched_off rest_true
       (implies (clause_at es) c hs derived.0 switched_off rest_true)
-  all_true implies (Round r vs j ∷ es) keeps lawful grouped derived active =
-      all_true implies es (λ w k h. keeps w k (name_step es (Round r vs j) lawful.0 w k h)) lawful.1 grouped.1 derived.1
-      (λ o g rest h on. active o g rest (contains_later (Round r vs j) (Given o (negative g ∷ rest)) es h) on)
-  all_true implies (Begun live ∷ es) keeps lawful grouped derived active =
-      all_true implies es (λ w k h. keeps w k (name_step es (Begun live) lawful.0 w k h)) lawful.1 grouped.1 derived.1
-      (λ o g rest h on. active o g rest (contains_later (Begun live) (Given o (negative g ∷ rest)) es h) on)
+  all_true implies (e ∷ es) keeps lawful grouped derived active =
+      all_true implies es (λ w k h. keeps w k (name_step es e lawful.0 w k h)) lawful.1 grouped.1 derived.1
+      (λ o g rest h on. active o g rest (contains_later e (Given o (negative g ∷ rest)) es h) on)
 
   -- what is negated is false
   negated_false : (l : Literal) → (is_selector all (variable_of l) ≡ true → is_negative l ≡ true) →

@@ -7,11 +7,9 @@ use Rattle.list_laws.proofs.Members.{no_element}
 use Rattle.dq_lits.specs.Literal.{Literal, negative, variable_of}
 use Rattle.dq_lits.specs.Derivation.{holds}
 use Rattle.dq_lits.proofs.HeldLiterals.{held_of_all, holds_here}
-use Rattle.hint_log.specs.Entries.{Entry}
-use Rattle.hint_log.specs.Entries.{Named, Given, Learned, Answer, Round, Begun}
+use Rattle.hint_log.specs.Entries.{Entry, Named, Given, Learned, Answer, Round, Begun, clause_at, clause_of, hints_at, hints_of, name_of, last_id, has_id, numbered}
 use Rattle.hint_log.specs.Conditions.{MayFollow, AreNamed, AreIds, AreLogged}
 use Rattle.hint_log.specs.Deciding.{HoldsSelectors, KeepsSelectors}
-use Rattle.hint_log.specs.Entries.{clause_at, clause_of, hints_at, hints_of, name_of, last_id, has_id, numbered}
 use Rattle.hint_log.specs.Reached.{Reaches, itself, by_hint}
 use Rattle.hint_log.specs.Growth.{Each}
 use Rattle.hint_log.specs.Naming.{is_selector, is_selector_name}
@@ -119,10 +117,7 @@ all_held (Answer c hs ∷ es) lawful tied =
     subst (AreNamed es) q lawful.0.0) lawful.0.1
     (λ d is. let q : c ≡ d = some_same c d is in subst (λ x. HoldsHintedSelectors es x hs) q tied.0)
     (all_held es lawful.1 tied.1)
-all_held (Round r vs j ∷ es) lawful tied =
-    let before = all_held es lawful.1 tied.1 in
-    λ id x at. let b = before id x at in record { named = b.named; ids = b.ids; kept = b.kept }
-all_held (Begun live ∷ es) lawful tied =
+all_held (_ ∷ es) lawful tied =
     let before = all_held es lawful.1 tied.1 in
     λ id x at. let b = before id x at in record { named = b.named; ids = b.ids; kept = b.kept }
 
@@ -136,8 +131,6 @@ hinted es held at hint hints d hat has to = by (numbered has_id es at) refl hat
     of_entry : (e : Entry) → numbered has_id es at ≡ Some e → hints_of e ≡ hints →
         (c : List Literal) × (clause_at es at ≡ Some c) × ((l : Literal) → holds d l ≡ true →
         is_selector es (variable_of l) ≡ true → holds c l ≡ true)
-    of_entry (Named v n) e is = absurd (no_element hint (subst (λ hs. Contains hs hint) (sym is) has))
-    of_entry (Given o c) e is = absurd (no_element hint (subst (λ hs. Contains hs hint) (sym is) has))
     of_entry (Learned c hs) e is = (
       c,
       ap (option_and_then clause_of) e,
@@ -150,8 +143,7 @@ hinted es held at hint hints d hat has to = by (numbered has_id es at) refl hat
       λ l m sel. (held at (Answer c hs) e).kept hint c d (subst (λ xs. Contains xs hint) (sym is) has) refl to
           l m sel,
     )
-    of_entry (Round r vs j) e is = absurd (no_element hint (subst (λ hs. Contains hs hint) (sym is) has))
-    of_entry (Begun live) e is = absurd (no_element hint (subst (λ hs. Contains hs hint) (sym is) has))
+    of_entry _ e is = absurd (no_element hint (subst (λ hs. Contains hs hint) (sym is) has))
 
     by : (o : Option Entry) → numbered has_id es at ≡ o → option_and_then (λ x. Some (hints_of x)) o ≡ Some hints
         → (c : List Literal) × (clause_at es at ≡ Some c) × ((l : Literal) → holds d l ≡ true →
@@ -207,12 +199,10 @@ given_to_selectors (Named v name ∷ es) logged grouped = λ id o g rest at. sel
     (given_to_selectors es logged.1 grouped.1 id o g rest at)
 given_to_selectors (Given o c ∷ es) logged grouped = given_more es (Given o c) refl
     (λ p g rest is. given_here es o p c g rest grouped.0 is) (λ v. refl) (given_to_selectors es logged.1 grouped.1)
-given_to_selectors (Learned c hs ∷ es) logged grouped = given_more es (Learned c hs) refl (λ p g rest is. cc)
-    (λ v. refl) (given_to_selectors es logged.1 grouped.1)
-given_to_selectors (Answer c hs ∷ es) logged grouped = given_more es (Answer c hs) refl (λ p g rest is. cc) (λ v. refl)
-    (given_to_selectors es logged.1 grouped.1)
 given_to_selectors (Round r vs j ∷ es) logged grouped = given_to_selectors es logged.1 grouped.1
 given_to_selectors (Begun live ∷ es) logged grouped = given_to_selectors es logged.1 grouped.1
+given_to_selectors (e ∷ es) logged grouped = given_more es e refl (λ p g rest is. cc) (λ v. refl)
+    (given_to_selectors es logged.1 grouped.1)
 
 -- an entry that holds the selectors of what it hints holds those of whatever it reaches
 pub holds_reached : (es : List Entry) (c : List Literal) (hs : List ℕ) → AreLogged es → Each IsGivenToGroup es →
@@ -226,8 +216,6 @@ holds_reached es c hs logged grouped kept here o g rest r =
 pub kept_along : (es : List Entry) → AreLogged es → Each IsGivenToGroup es → Each KeepsHintedSelectors es →
     KeepsSelectors es
 kept_along [] logged grouped kept = tt
-kept_along (Named v name ∷ es) logged grouped kept = (tt, kept_along es logged.1 grouped.1 kept.1)
-kept_along (Given o c ∷ es) logged grouped kept = (tt, kept_along es logged.1 grouped.1 kept.1)
 kept_along (Learned c hs ∷ es) logged grouped kept = (
   holds_reached es c hs logged.1 grouped.1 kept.1 kept.0,
   kept_along es logged.1 grouped.1 kept.1,
@@ -236,5 +224,4 @@ kept_along (Answer c hs ∷ es) logged grouped kept = (
   holds_reached es c hs logged.1 grouped.1 kept.1 kept.0,
   kept_along es logged.1 grouped.1 kept.1,
 )
-kept_along (Round r vs j ∷ es) logged grouped kept = (tt, kept_along es logged.1 grouped.1 kept.1)
-kept_along (Begun live ∷ es) logged grouped kept = (tt, kept_along es logged.1 grouped.1 kept.1)
+kept_along (_ ∷ es) logged grouped kept = (tt, kept_along es logged.1 grouped.1 kept.1)

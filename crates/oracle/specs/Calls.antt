@@ -3,10 +3,8 @@ use Rattle.std.specs.Prelude.{◌≡◌, ℕ, true, false, List, ◌++◌, map, 
 use Rattle.std.specs.List.{All}
 use Rattle.dq_lits.specs.Literal.{Assignment, Literal, variable_of, is_negative, opposite, literal_true}
 use Rattle.dq_lits.specs.Derivation.{LiveClauses, MakesTrue, holds}
-use Rattle.hint_log.specs.Entries.{Entry}
-use Rattle.hint_log.specs.Entries.{Learned, Answer}
+use Rattle.hint_log.specs.Entries.{Entry, Learned, Answer, ProofLog, with_entry, name_of, last_id}
 use Rattle.hint_log.specs.declared.names.Name.TheVariants.{Selector}
-use Rattle.hint_log.specs.Entries.{ProofLog, with_entry, name_of, last_id}
 use Rattle.hint_log.specs.Growth.{Grew}
 use Rattle.hint_log.specs.Naming.{is_selector}
 use Rattle.oracle.specs.declared.groups.Group.{Group}

@@ -3,12 +3,10 @@
 use Rattle.std.specs.Prelude.{◌≡◌, ℕ, zero, suc, ◌≤◌, true, List, length, Some, None, IsSome, slice_get, Contains}
 use Rattle.dq_lits.specs.Literal.{Literal, variable_of}
 use Rattle.dq_lits.specs.Derivation.{LiveClauses, holds}
-use Rattle.hint_log.specs.Entries.{Entry}
-use Rattle.hint_log.specs.Entries.{Learned, Answer}
+use Rattle.hint_log.specs.Entries.{Entry, Learned, Answer, clause_at, name_of, last_id}
 use Rattle.hint_log.specs.declared.names.Name.TheVariants.{Selector}
 use Rattle.hint_log.specs.Conditions.{AreLogged}
 use Rattle.hint_log.specs.Deciding.{KeepsSelectors}
-use Rattle.hint_log.specs.Entries.{clause_at, name_of, last_id}
 use Rattle.hint_log.specs.Growth.{Each}
 use Rattle.hint_log.specs.Naming.{is_selector}
 use Rattle.hint_log.specs.ProductiveLog.{IsDerivedByHints, IsNewLemma}
