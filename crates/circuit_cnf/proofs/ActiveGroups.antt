@@ -1,9 +1,8 @@
 -- The groups that a search has.
-use Rattle.std.proofs.Common.{◌≡◌, ℕ, zero, suc, ◌+◌, ◌<◌, Bool, true, ◌⊎◌, inl, inr, List, [], ◌∷◌, ◌++◌, map, length, get_or, None, sym, ◌∙◌, ap, subst, arith}
+use Rattle.std.proofs.Common.{◌≡◌, ℕ, ◌+◌, ◌<◌, Bool, true, ◌⊎◌, inl, inr, List, [], ◌∷◌, ◌++◌, map, length, get_or, None, sym, ◌∙◌, ap, subst, arith}
 use Rattle.std.specs.List.{All, Contains}
-use Rattle.std.proofs.lemmas.List.{append-nil}
-use Rattle.std.proofs.lemmas.List.{get_or_default}
-use Rattle.std.proofs.lemmas.List.Elements.{Contains-append_left, Contains-get_or, Contains-push}
+use Rattle.std.proofs.lemmas.List.{append-nil, get_or_default}
+use Rattle.std.proofs.lemmas.List.Elements.{Contains-append_left, Contains-get_or, Contains-push, Contains-push_cases}
 use Rattle.list_laws.proofs.Members.{contains_cases, contains_first, contains_later}
 use Rattle.list_laws.proofs.Numbers.{below_or_here}
 use Rattle.dq_lits.specs.Literal.{variable_of}
@@ -44,14 +43,6 @@ module _ (checker : Checker) (faults : Group) (are_all : Bool) (active : List Gr
     | inr same ↦ inr (ap (λ (x : Group). name_of old (variable_of x.selector)) same ∙ unnamed)
   ]
 
-in_pushed : (xs : List Group) (x h : Group) → Contains (xs ++ (x ∷ [])) h → Contains xs h ⊎ (x ≡ h)
-in_pushed [] x h (zero, below, same) = inr same
-in_pushed [] x h (suc k, below, same) = absurd (omega (arith, below))
-in_pushed (y ∷ xs) x h has = elim (contains_cases y h (xs ++ (x ∷ [])) has) [
-  | inl same ↦ inl (subst (Contains (y ∷ xs)) same (contains_first y xs))
-  | inr later ↦ elim (in_pushed xs x h later) [ inl there ↦ inl (contains_later y h xs there) | inr here ↦ inr here ]
-]
-
 -- the earlier groups up to a place
 pub record GroupsSoFar (earlier : List Group) (are_all : Bool) (place : ℕ) (active : List Group) : Type 0 where
   pub each : (g : Group) → Contains active g → Contains earlier g
@@ -67,7 +58,7 @@ pub group_kept : (earlier active : List Group) (are_all : Bool) (place : ℕ) (g
     g ≡ get_or earlier place g → GroupsSoFar earlier are_all place active →
     GroupsSoFar earlier are_all (place + 1) (active ++ (g ∷ []))
 group_kept earlier active are_all place g inside is so_far = record {
-  each = λ h has. elim (in_pushed active g h has) [
+  each = λ h has. elim (Contains-push_cases active g h has) [
     | inl was ↦ so_far.each h was
     | inr here ↦ subst (Contains earlier) (sym is ∙ here) (Contains-get_or earlier place g inside)
   ];
@@ -91,8 +82,8 @@ pub are_active : (checker : Checker) (faults : Group) (are_all : Bool) (place : 
     GroupsSoFar checker.gates.earlier.items are_all place active →
     AreActive checker faults are_all ((active ++ (checker.gates.group ∷ [])) ++ (faults ∷ []))
 are_active checker faults are_all place active ended so_far = record {
-  each = λ g has. elim (in_pushed (active ++ (own ∷ [])) faults g has) [
-    | inl before ↦ elim (in_pushed active own g before) [
+  each = λ g has. elim (Contains-push_cases (active ++ (own ∷ [])) faults g has) [
+    | inl before ↦ elim (Contains-push_cases active own g before) [
       | inl mine ↦ inl (contains_later own g earlier (so_far.each g mine))
       | inr here ↦ inl (subst (Contains (own ∷ earlier)) here (contains_first own earlier))
     ]

@@ -5,13 +5,10 @@ use Rattle.std.proofs.lemmas.Bool.{eq-eqb}
 use Rattle.list_laws.proofs.Members.{contains_later, contains_cases}
 use Rattle.dq_lits.specs.Literal.{Literal, negative, variable_of}
 use Rattle.dq_lits.specs.Formula.{Dqbf}
-use Rattle.hint_log.specs.Entries.{Entry}
-use Rattle.hint_log.specs.Entries.{Given}
+use Rattle.hint_log.specs.Entries.{Entry, Given}
 use Rattle.hint_log.specs.declared.origins.Leaf.{Leaf}
 use Rattle.hint_log.specs.declared.origins.Origin.TheVariants.{Fault}
-use Rattle.hint_log.specs.Entries.{name_of}
-use Rattle.hint_log.specs.declared.origins.Leaf.TheVariants.{Constant, Literal as LeafLiteral}
-use Rattle.hint_log.specs.Origins.{matrix_literal, IsLeafOf}
+use Rattle.hint_log.specs.Origins.{matrix_literal}
 use Rattle.hint_log.specs.ProductiveLog.{with_group}
 use Rattle.circuit_cnf.specs.Faults.{HasFault, HaveOneLeaf, AreFewWith}
 
@@ -42,9 +39,3 @@ one_leaf_more f group j place leaf l rest es at before k i v out more inside own
 pub same_element : (clause : List Literal) (i : ℕ) (k l : Literal) → i < length clause → k ≡ get_or clause i k →
     l ≡ get_or clause i l → k ≡ l
 same_element clause i k l below is is' = is ∙ get_or_default clause i k l below ∙ sym is'
-
--- a leaf stays one where names are as they were
-pub leaf_stays_leaf : (f : Dqbf) (old new : List Entry) (v : ℕ) (out : Leaf) →
-    ((w : ℕ) → name_of new w ≡ name_of old w) → IsLeafOf f old v out → IsLeafOf f new v out
-leaf_stays_leaf f old new v (Constant b) names h = h
-leaf_stays_leaf f old new v (LeafLiteral l) names h = search arith

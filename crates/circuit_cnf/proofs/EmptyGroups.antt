@@ -2,11 +2,9 @@
 use Rattle.std.proofs.Common.{◌≡◌, ℕ, zero, suc, ◌<◌, List, [], ◌∷◌, length, None, refl, subst, arith}
 use Rattle.std.specs.List.{Contains}
 use Rattle.dq_lits.specs.Literal.{Literal, negative}
-use Rattle.hint_log.specs.Entries.{Entry}
-use Rattle.hint_log.specs.Entries.{Named, Given, Learned, Answer, Round, Begun}
+use Rattle.hint_log.specs.Entries.{Entry, Named, Given, name_of}
 use Rattle.hint_log.specs.declared.names.Name.{Name}
 use Rattle.hint_log.specs.declared.origins.Origin.{Origin}
-use Rattle.hint_log.specs.Entries.{name_of}
 use Rattle.hint_log.specs.Growth.{Each}
 use Rattle.log_laws.specs.Engines.{IsInGroup}
 use Rattle.log_laws.proofs.Found.{each_weaker}
@@ -27,10 +25,7 @@ group_is_unused group [] unnamed grouped = tt
 group_is_unused group (Named w n ∷ es) unnamed grouped = search (arith, (group_is_unused group es), unnamed_before)
 group_is_unused group (Given origin c ∷ es) unnamed grouped =
     search (arith, (group_is_unused group es unnamed grouped.1))
-group_is_unused group (Learned c h ∷ es) unnamed grouped = (tt, group_is_unused group es unnamed grouped.1)
-group_is_unused group (Answer c h ∷ es) unnamed grouped = (tt, group_is_unused group es unnamed grouped.1)
-group_is_unused group (Round r b j ∷ es) unnamed grouped = (tt, group_is_unused group es unnamed grouped.1)
-group_is_unused group (Begun live ∷ es) unnamed grouped = (tt, group_is_unused group es unnamed grouped.1)
+group_is_unused group (_ ∷ es) unnamed grouped = (tt, group_is_unused group es unnamed grouped.1)
 
 pub not_given_there : (group : ℕ) (es : List Entry) → Each (IsUnused group) es →
     (origin : Origin) (rest : List Literal) → Contains es (Given origin (negative group ∷ rest)) → ⊥
@@ -40,12 +35,8 @@ not_given_there group (e ∷ es) unused origin rest (suc k, below, is) =
     not_given_there group es unused.1 origin rest (k, (let b : k < length es = omega arith in b), is)
 
 no_gate_given : (group : ℕ) (earlier : List Entry) (e : Entry) → IsUnused group earlier e → IsGateGiven group earlier e
-no_gate_given group earlier (Named v n) h = tt
 no_gate_given group earlier (Given origin c) h = λ inside. absurd (h inside)
-no_gate_given group earlier (Learned c hints) h = tt
-no_gate_given group earlier (Answer c hints) h = tt
-no_gate_given group earlier (Round row values j) h = tt
-no_gate_given group earlier (Begun live) h = tt
+no_gate_given group earlier _ h = tt
 
 pub no_gates_given : (group : ℕ) (es : List Entry) → name_of es group ≡ None → Each IsGivenToGroup es →
     Each (IsGateGiven group) es

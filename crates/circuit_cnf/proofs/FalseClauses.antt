@@ -11,14 +11,12 @@ use Rattle.dq_lits.specs.Literal.{Assignment, Literal, positive, negative, varia
 use Rattle.dq_lits.specs.Formula.{Dqbf}
 use Rattle.dq_lits.specs.Derivation.{LiveClauses, MakesTrue}
 use Rattle.dq_lits.proofs.Truth.{literal_true-opposite}
-use Rattle.hint_log.specs.Entries.{Entry}
-use Rattle.hint_log.specs.Entries.{Given}
+use Rattle.hint_log.specs.Entries.{Entry, Given, ProofLog, name_of, clause_at}
 use Rattle.hint_log.specs.declared.names.Name.TheVariants.{And}
 use Rattle.hint_log.specs.declared.origins.Leaf.{Leaf}
 use Rattle.hint_log.specs.declared.origins.Leaf.TheVariants.{Constant, Literal as LeafLiteral}
 use Rattle.hint_log.specs.declared.origins.Origin.{Origin}
 use Rattle.hint_log.specs.declared.origins.Origin.TheVariants.{Gate, Fault}
-use Rattle.hint_log.specs.Entries.{ProofLog, name_of, clause_at}
 use Rattle.hint_log.specs.Growth.{Grew}
 use Rattle.hint_log.specs.Origins.{leaf_with_sign, leaf_clause}
 use Rattle.log_laws.specs.Circuits.{leaf_value}

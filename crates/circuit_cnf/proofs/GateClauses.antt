@@ -1,10 +1,8 @@
 -- The clauses of a gate, one after the other.
 use Rattle.std.proofs.Common.{◌≡◌, ℕ, ◌+◌, ◌≤◌, ◌<◌, true, ◌∷◌, length, Some, refl, sym, subst, arith}
 use Rattle.dq_lits.specs.Literal.{negative, variable_of}
-use Rattle.hint_log.specs.Entries.{Entry}
-use Rattle.hint_log.specs.Entries.{Given}
+use Rattle.hint_log.specs.Entries.{Entry, Given, ProofLog, with_entry, name_of}
 use Rattle.hint_log.specs.declared.origins.Origin.TheVariants.{Gate}
-use Rattle.hint_log.specs.Entries.{ProofLog, with_entry, name_of}
 use Rattle.hint_log.specs.ProductiveLog.{fault_groups, fault_room}
 use Rattle.list_laws.proofs.Members.{contains_first}
 use Rattle.log_laws.specs.Engines.{circuits, IsAddedBy}

@@ -3,11 +3,9 @@ use Rattle.std.proofs.Common.{◌≡◌, ℕ, ◌≤◌, inl, List, ◌∷◌, l
 use Rattle.std.specs.List.{Contains}
 use Rattle.dq_lits.specs.Literal.{Literal, negative}
 use Rattle.dq_lits.specs.Formula.{Dqbf}
-use Rattle.hint_log.specs.Entries.{Entry}
-use Rattle.hint_log.specs.Entries.{Given}
+use Rattle.hint_log.specs.Entries.{Entry, Given, name_of}
 use Rattle.hint_log.specs.declared.names.Name.TheVariants.{Selector, And}
 use Rattle.hint_log.specs.declared.origins.Origin.TheVariants.{Gate}
-use Rattle.hint_log.specs.Entries.{name_of}
 use Rattle.hint_log.specs.Origins.{gate_rest}
 use Rattle.hint_log.specs.ProductiveLog.{fault_groups, fault_room}
 use Rattle.log_laws.specs.Engines.{circuits, IsGivenBy}

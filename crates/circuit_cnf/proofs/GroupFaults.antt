@@ -6,14 +6,12 @@ use Rattle.std.proofs.lemmas.Bool.{false≢true}
 use Rattle.list_laws.proofs.Members.{contains_later, contains_first, contains_cases}
 use Rattle.dq_lits.specs.Literal.{Literal, positive, negative, variable_of, is_negative}
 use Rattle.dq_lits.specs.Formula.{Dqbf}
-use Rattle.hint_log.specs.Entries.{Entry}
-use Rattle.hint_log.specs.Entries.{Given}
+use Rattle.hint_log.specs.Entries.{Entry, Given, ProofLog, with_entry, name_of}
 use Rattle.hint_log.specs.declared.names.Name.TheVariants.{Bad}
 use Rattle.hint_log.specs.declared.origins.Leaf.{Leaf}
 use Rattle.hint_log.specs.declared.origins.Leaf.TheVariants.{Constant, Literal as LeafLiteral}
 use Rattle.hint_log.specs.declared.origins.Origin.TheVariants.{Fault}
 use Rattle.hint_log.specs.Conditions.{is_circuit_name}
-use Rattle.hint_log.specs.Entries.{ProofLog, with_entry, name_of}
 use Rattle.hint_log.specs.Growth.{Grew}
 use Rattle.hint_log.specs.Naming.{AreNamedAs}
 use Rattle.hint_log.specs.Origins.{matrix_literal, IsLeafOf}

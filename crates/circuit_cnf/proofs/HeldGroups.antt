@@ -9,14 +9,12 @@ use Rattle.dq_lits.specs.Formula.{Dqbf, Existential}
 use Rattle.dq_lits.specs.Derivation.{holds}
 use Rattle.dq_lits.proofs.Truth.{same_literal-sound}
 use Rattle.dq_lits.proofs.HeldLiterals.{all_held}
-use Rattle.hint_log.specs.Entries.{Entry}
-use Rattle.hint_log.specs.Entries.{Named, Given, Learned, Answer, Round, Begun}
+use Rattle.hint_log.specs.Entries.{Entry, Given, Learned, Answer, ProofLog, name_of}
 use Rattle.hint_log.specs.declared.names.Name.TheVariants.{Selector}
 use Rattle.hint_log.specs.declared.origins.Leaf.{Leaf}
 use Rattle.hint_log.specs.declared.origins.Origin.{Origin}
-use Rattle.hint_log.specs.declared.origins.Origin.TheVariants.{Instance, Gate, Fault, Copy, Link, TermGate, Differ}
+use Rattle.hint_log.specs.declared.origins.Origin.TheVariants.{Gate, Fault}
 use Rattle.hint_log.specs.Deciding.{ReachesGiven, IsCircuitGiven, IsFaultLeaf}
-use Rattle.hint_log.specs.Entries.{ProofLog, name_of}
 use Rattle.hint_log.specs.Growth.{Each, EachOf, Grew}
 use Rattle.hint_log.specs.Origins.{IsOriginsClause}
 use Rattle.hint_log.proofs.NamedEntries.{is_selector_here}
@@ -55,61 +53,35 @@ only_selectors (g ∷ gs) l plain held = elim (or_cases (same_literal (opposite 
 pub learned_givens : (more old : List Entry) → EachOf IsLearnedEntry more old → (origin : Origin) (c : List Literal) →
     Contains (more ++ old) (Given origin c) → Contains old (Given origin c)
 learned_givens [] old h origin c inside = inside
-learned_givens (Named v n ∷ more) old h origin c inside = absurd h.0
-learned_givens (Given o d ∷ more) old h origin c inside = absurd h.0
 learned_givens (Learned d hints ∷ more) old h origin c inside =
     search (arith, contains_cases, (learned_givens more old h.1 origin c))
-learned_givens (Answer d hints ∷ more) old h origin c inside = absurd h.0
-learned_givens (Round row values j ∷ more) old h origin c inside = absurd h.0
-learned_givens (Begun live ∷ more) old h origin c inside = absurd h.0
+learned_givens (_ ∷ more) old h origin c inside = absurd h.0
 
 learned_gate_given : (group : ℕ) (earlier : List Entry) (e : Entry) → IsLearnedEntry earlier e →
     IsGateGiven group earlier e
-learned_gate_given group earlier (Named v n) h = absurd h
-learned_gate_given group earlier (Given origin c) h = absurd h
 learned_gate_given group earlier (Learned c hints) h = tt
-learned_gate_given group earlier (Answer c hints) h = absurd h
-learned_gate_given group earlier (Round row values j) h = absurd h
-learned_gate_given group earlier (Begun live) h = absurd h
+learned_gate_given group earlier _ h = absurd h
 
 learned_own_given : (f : Dqbf) (group : ℕ) (earlier : List Entry) (e : Entry) → IsLearnedEntry earlier e →
     IsOwnGiven f circuits group earlier e
-learned_own_given f group earlier (Named v n) h = absurd h
-learned_own_given f group earlier (Given origin c) h = absurd h
 learned_own_given f group earlier (Learned c hints) h = tt
-learned_own_given f group earlier (Answer c hints) h = absurd h
-learned_own_given f group earlier (Round row values j) h = absurd h
-learned_own_given f group earlier (Begun live) h = absurd h
+learned_own_given f group earlier _ h = absurd h
 
 gate_is_circuit : (earlier : List Entry) (group : ℕ) (origin : Origin) (c : List Literal) →
     IsGateClause earlier origin c → IsCircuitGiven group origin c
-gate_is_circuit earlier group (Instance k j) c h = absurd h
 gate_is_circuit earlier group (Gate v i) c h = tt
-gate_is_circuit earlier group (Fault j i leaf) c h = absurd h
-gate_is_circuit earlier group (Copy side j) c h = absurd h
-gate_is_circuit earlier group (Link v i) c h = absurd h
-gate_is_circuit earlier group (TermGate v i) c h = absurd h
-gate_is_circuit earlier group (Differ y leaf part) c h = absurd h
+gate_is_circuit earlier group _ c h = absurd h
 
 gate_is_origins : (f : Dqbf) (earlier : List Entry) (origin : Origin) (c : List Literal) →
     IsGateClause earlier origin c → IsOriginsClause f earlier origin c
-gate_is_origins f earlier (Instance k j) c h = absurd h
 gate_is_origins f earlier (Gate v i) c h = h f
-gate_is_origins f earlier (Fault j i leaf) c h = absurd h
-gate_is_origins f earlier (Copy side j) c h = absurd h
-gate_is_origins f earlier (Link v i) c h = absurd h
-gate_is_origins f earlier (TermGate v i) c h = absurd h
-gate_is_origins f earlier (Differ y leaf part) c h = absurd h
+gate_is_origins f earlier _ c h = absurd h
 
 fault_is_circuit : (group : ℕ) (origin : Origin) (c : List Literal) → origin_engine origin ≡ circuits →
     IsInGroup group c → IsCircuitGiven group origin c
-fault_is_circuit group (Instance k j) c h inside = cc
 fault_is_circuit group (Gate v i) c h inside = tt
 fault_is_circuit group (Fault j i leaf) c h inside = inside
-fault_is_circuit group (Copy side j) c h inside = cc
-fault_is_circuit group (Link v i) c h inside = cc
-fault_is_circuit group (TermGate v i) c h inside = cc
-fault_is_circuit group (Differ y leaf part) c h inside = cc
+fault_is_circuit group _ c h inside = cc
 
 pub groups_learned : (f : Dqbf) (leaf : ℕ → Leaf) (gates : List Group) (faults : ℕ) (old : List Entry)
     (log new : ProofLog) → Grew IsLearnedEntry log new → AreTurnGroups f leaf gates faults old log.entries →

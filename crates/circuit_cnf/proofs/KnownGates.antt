@@ -1,7 +1,6 @@
 -- What is known of gates, with one gate more.
-use Rattle.std.proofs.Common.{◌≡◌, ◌≤◌, ℕ, ◌+◌, ◌<◌, ◌==◌, Bool, true, false, cond, inl, inr, ◌⊎◌, List, [], ◌∷◌, Option, Some, None, IsSome, refl, sym, ◌∙◌, ap, subst, arith}
+use Rattle.std.proofs.Common.{◌≡◌, ◌≤◌, ℕ, ◌+◌, ◌<◌, ◌==◌, Bool, true, false, cond, inl, inr, ◌⊎◌, List, [], ◌∷◌, Option, Some, None, IsSome, refl, sym, ◌∙◌, ap, subst, arith, BTreeMap}
 use Rattle.std.specs.List.{Contains}
-use Rattle.std.proofs.Common.{BTreeMap}
 use Rattle.std.specs.BTreeMap.{get, is_at}
 use Rattle.std.specs.Map.{lookup}
 use Rattle.std.specs.Ordering.{is_eq}
@@ -9,15 +8,14 @@ use Rattle.std.proofs.lemmas.Bool.{eqb-true, eq-eqb, false≢true, cond-true, co
 use Rattle.list_laws.proofs.Numbers.{below_or_here, equal_pairs}
 use Rattle.list_laws.proofs.Members.{contains_later, contains_first, contains_cases}
 use Rattle.dq_lits.specs.Literal.{Literal, negative, variable_of, literal_code}
-use Rattle.hint_log.specs.Entries.{Entry}
-use Rattle.hint_log.specs.Entries.{Named, Given, Learned, Answer, Round, Begun}
+use Rattle.hint_log.specs.Entries.{Entry, Named, Given, name_of}
 use Rattle.hint_log.specs.declared.names.Name.{Name}
-use Rattle.hint_log.specs.declared.names.Name.TheVariants.{And, Bad, Selector}
+use Rattle.hint_log.specs.declared.names.Name.TheVariants.{And, Bad}
 use Rattle.hint_log.specs.declared.origins.Origin.TheVariants.{Gate}
 use Rattle.hint_log.specs.Conditions.{AreLogged}
-use Rattle.hint_log.specs.Entries.{name_of}
 use Rattle.oracle.specs.Calls.{IsMade}
 use Rattle.oracle.specs.declared.groups.Group.{Group}
+use Rattle.oracle.proofs.MadeGroups.{made_stays}
 use Rattle.hint_log.specs.Growth.{Each}
 use Rattle.hint_log.specs.Origins.{gate_rest}
 use Rattle.log_laws.proofs.Kept.{NamesStay, name_stays_by, name_cases, some_stays}
@@ -60,19 +58,13 @@ have_stay old new more groups v a b have = (
   clauses_stay old new more (variable_of have.0.selector) v a b 3 have.2,
 )
 
-made_stay : (old new : List Entry) → NamesStay old new → (g : Group) → IsMade old g → IsMade new g
-made_stay old new stay g made = record {
-  positive = made.positive;
-  named = stay (variable_of g.selector) (Selector (variable_of g.selector)) made.named;
-}
-
 -- a gate's name more
 pub named_more : (gates : Gates) (es : List Entry) (v : ℕ) (a b : Literal) → AreKnown gates es →
     gates.unfinished ≡ None → name_of es v ≡ None →
     get pair_cmp gates.variables (literal_code a, literal_code b) ≡ None →
     AreKnown (record gates { unfinished = Some (unfinished_gate v a b 0) }) (Named v (And a b) ∷ es)
 named_more gates es v a b before ready unnamed none = record {
-  made = λ h inside. made_stay es (Named v (And a b) ∷ es) stay h (before.made h inside);
+  made = λ h inside. made_stays es (Named v (And a b) ∷ es) h stay (before.made h inside);
   known = λ c d w is. elim (name_cases es v w (And a b) (And c d) is) [
     | inl here ↦ inr (unfinished_gate v a b 0, refl, sym here.0)
     | inr old ↦ search arith
@@ -263,7 +255,7 @@ pub record LeavesGates (gates : Gates) (old new : List Entry) : Type 0 where
 pub known_stay : (gates : Gates) (old new : List Entry) → LeavesGates gates old new → AreKnown gates old →
     AreKnown gates new
 known_stay gates old new leaves before = record {
-  made = λ h inside. made_stay old new leaves.stay h (before.made h inside);
+  made = λ h inside. made_stays old new h leaves.stay (before.made h inside);
   known = λ a b v is. before.known a b v (leaves.ands v a b is);
   sound = λ a b v found. leaves.stay v (And a b) (before.sound a b v found);
   clauses = λ a b v found. have_stay old new leaves.more (groups_of gates) v a b (before.clauses a b v found);
@@ -292,8 +284,4 @@ pub name_in_range : (es : List Entry) (v : ℕ) (n : Name) → AreLogged es → 
     (1 ≤ v) × (v < 4611686018427387904)
 name_in_range [] v n logged is = cc
 name_in_range (Named w m ∷ es) v n logged is = search (arith, (name_in_range es v n logged.1), eqb-true)
-name_in_range (Given o c ∷ es) v n logged is = name_in_range es v n logged.1 is
-name_in_range (Learned c h ∷ es) v n logged is = name_in_range es v n logged.1 is
-name_in_range (Answer c h ∷ es) v n logged is = name_in_range es v n logged.1 is
-name_in_range (Round r b j ∷ es) v n logged is = name_in_range es v n logged.1 is
-name_in_range (Begun live ∷ es) v n logged is = name_in_range es v n logged.1 is
+name_in_range (_ ∷ es) v n logged is = name_in_range es v n logged.1 is

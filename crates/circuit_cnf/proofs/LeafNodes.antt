@@ -5,8 +5,7 @@ use Rattle.std.proofs.lemmas.List.Elements.{Contains-append_left, Contains-appen
 use Rattle.list_laws.proofs.Elements.{index_of}
 use Rattle.dq_lits.specs.Literal.{Assignment, Literal, positive, negative, variable_of}
 use Rattle.dq_lits.specs.Formula.{Dqbf}
-use Rattle.hint_log.specs.Entries.{name_of}
-use Rattle.hint_log.specs.Entries.{Entry}
+use Rattle.hint_log.specs.Entries.{name_of, Entry}
 use Rattle.hint_log.specs.declared.names.Name.{Name}
 use Rattle.hint_log.specs.declared.names.Name.TheVariants.{Input as InputName, And}
 use Rattle.hint_log.specs.declared.origins.Leaf.{Leaf}
@@ -16,8 +15,7 @@ use Rattle.aig_graph.specs.declared.nodes.Node.TheVariants.{Input, Gate}
 use Rattle.aig_graph.specs.Graph.{AigGraph, with_sign, gate_value, node_value, node_support}
 use Rattle.hint_log.specs.Origins.{leaf_with_sign}
 use Rattle.log_laws.specs.Circuits.{value_in, leaf_value}
-use Rattle.circuit_cnf.specs.Leaves.{LeavesHaveNodesValues, LeavesReadNodesCones}
-use Rattle.circuit_cnf.specs.Leaves.{HasLeaf, constant, input, gate}
+use Rattle.circuit_cnf.specs.Leaves.{LeavesHaveNodesValues, LeavesReadNodesCones, HasLeaf, constant, input, gate}
 use Rattle.hint_log.specs.Conditions.{AreLogged}
 use Rattle.hint_log.specs.Deciding.{ReadsInput, itself, left, right, LeafReads}
 use Rattle.aig_graph.proofs.LargerGraphs.{gate_value_in, gate_support_in}

@@ -9,12 +9,11 @@ use Rattle.aig_graph.specs.declared.nodes.Node.{Node}
 use Rattle.aig_graph.specs.declared.nodes.Node.TheVariants.{Constant}
 use Rattle.aig_graph.specs.Graph.{AigGraph, gate_value, node_value}
 use Rattle.aig_graph.proofs.LargerGraphs.{gate_value_in}
-use Rattle.hint_log.specs.Entries.{Entry}
+use Rattle.hint_log.specs.Entries.{Entry, name_of}
 use Rattle.hint_log.specs.declared.names.Name.TheVariants.{Input as InputName, And}
 use Rattle.hint_log.specs.declared.origins.Leaf.{Leaf}
 use Rattle.hint_log.specs.declared.origins.Leaf.TheVariants.{Constant as LeafConstant, Literal as LeafLiteral}
 use Rattle.hint_log.specs.Conditions.{AreLogged}
-use Rattle.hint_log.specs.Entries.{name_of}
 use Rattle.hint_log.specs.Naming.{round_assignment}
 use Rattle.hint_log.proofs.Lawful.{names_are_unique_lem}
 use Rattle.log_laws.specs.Circuits.{leaf_value}

@@ -22,12 +22,10 @@ use Rattle.circuit_cnf.specs.Leaves.{AreClosed, AreMarkedUniversals}
 same_support : (graph : AigGraph) (a b : Node) (p : ℕ) → IsNode graph a → IsNode graph b →
     place_of graph.inputs a ≡ Some p → place_of graph.inputs b ≡ Some p → node_support graph a ≡ node_support graph b
 same_support graph (Constant x) b p is_a is_b at_a at_b = cc
-same_support graph (Input i s) (Constant x) p is_a is_b at_a at_b = cc
-same_support graph (Gate g s) (Constant x) p is_a is_b at_a at_b = cc
 same_support graph (Input i s) (Input j t) p is_a is_b at_a at_b = ap (λ k. k ∷ []) (some_is at_a ∙ sym (some_is at_b))
-same_support graph (Input i s) (Gate h t) p is_a is_b at_a at_b = search (arith, some_is)
 same_support graph (Gate g s) (Input j t) p is_a is_b at_a at_b = search (arith, some_is)
-same_support graph (Gate g s) (Gate h t) p is_a is_b at_a at_b = search (arith, some_is)
+same_support graph _ (Gate h t) p is_a is_b at_a at_b = search (arith, some_is)
+same_support graph _ (Constant x) p is_a is_b at_a at_b = cc
 
 module _ (graph : AigGraph) (lawful : IsGraph graph) (nodes : List Node) (are : All (IsNode graph) nodes) where
   -- what is read from a place in the cones, one of the nodes reads
@@ -74,9 +72,8 @@ pub over_universals : (f : Dqbf) (graph : AigGraph) (marks : List Bool) (count :
     AreMarkedUniversals f graph marks → (n : Node) → IsEarlierNode graph.inputs count n →
     ((p : ℕ) → place_of graph.inputs n ≡ Some p → bit_of marks p ≡ true) →
     IsEarlierNode (length f.universals) count n
-over_universals f graph marks count low (Constant b) earlier marked = earlier
 over_universals f graph marks count low (Input i negated) earlier marked = low i earlier (marked i refl)
-over_universals f graph marks count low (Gate g negated) earlier marked = earlier
+over_universals f graph marks count low _ earlier marked = earlier
 
 pub all_over_universals : (f : Dqbf) (graph : AigGraph) (nodes : List Node) (marks : List Bool) (count : ℕ) →
     AreMarkedUniversals f graph marks → ((p : ℕ) → ((bit_of marks p ≡ true) ↔ IsInCone graph nodes p)) →

@@ -8,10 +8,8 @@ use Rattle.list_laws.proofs.Numbers.{range_more}
 use Rattle.list_laws.proofs.Members.{contains_cases}
 use Rattle.dq_lits.specs.Literal.{Literal, positive}
 use Rattle.dq_lits.specs.Formula.{Dqbf}
-use Rattle.hint_log.specs.Entries.{Entry}
-use Rattle.hint_log.specs.Entries.{Named}
+use Rattle.hint_log.specs.Entries.{Entry, Named, ProofLog, with_entry, name_of}
 use Rattle.hint_log.specs.declared.names.Name.TheVariants.{Bad}
-use Rattle.hint_log.specs.Entries.{ProofLog, with_entry, name_of}
 use Rattle.hint_log.specs.Growth.{Grew}
 use Rattle.hint_log.specs.Naming.{NamedLiteral, named_literal, name_literal, AreNamedAs}
 use Rattle.hint_log.specs.ProductiveLog.{fault_groups}

@@ -2,7 +2,7 @@
 use Rattle.std.proofs.Common.{◌≡◌, ℕ, ◌⊎◌, inl, inr, List, [], ◌∷◌, ◌++◌, Some, None, refl, sym, ◌∙◌, ap, subst}
 use Rattle.std.specs.List.{Contains}
 use Rattle.std.specs.BTreeMap.{get}
-use Rattle.std.proofs.lemmas.List.Elements.{Contains-append_left, Contains-append_right}
+use Rattle.std.proofs.lemmas.List.Elements.{Contains-append_left, Contains-push, Contains-push_cases}
 use Rattle.list_laws.proofs.Members.{contains_first, contains_later, contains_cases}
 use Rattle.dq_lits.specs.Literal.{variable_of, literal_code}
 use Rattle.hint_log.specs.Entries.{Entry, Named, ProofLog, name_of, with_entry}
@@ -21,21 +21,15 @@ module _ (xs : List Group) (y g : Group) where
   in_new : (h : Group) → Contains (g ∷ (xs ++ (y ∷ []))) h → (g ≡ h) ⊎ Contains (y ∷ xs) h
   in_new h inside = elim (contains_cases g h (xs ++ (y ∷ [])) inside) [
     | inl is ↦ inl is
-    | inr later ↦ inr (in_old xs later)
-  ] where
-    in_old : (zs : List Group) → Contains (zs ++ (y ∷ [])) h → Contains (y ∷ zs) h
-    in_old [] has = has
-    in_old (z ∷ zs) has = elim (contains_cases z h (zs ++ (y ∷ [])) has) [
-      | inl is ↦ contains_later y h (z ∷ zs) (subst (Contains (z ∷ zs)) is (contains_first z zs))
-      | inr later ↦ elim (contains_cases y h zs (in_old zs later)) [
-        | inl is ↦ subst (Contains (y ∷ z ∷ zs)) is (contains_first y (z ∷ zs))
-        | inr there ↦ contains_later y h (z ∷ zs) (contains_later z h zs there)
-      ]
-    ]
+    | inr later ↦ inr (elim (Contains-push_cases xs y h later) [
+      | inl there ↦ contains_later y h xs there
+      | inr is ↦ subst (Contains (y ∷ xs)) is (contains_first y xs)
+    ])
+  ]
 
   still_in : (h : Group) → Contains (y ∷ xs) h → Contains (g ∷ (xs ++ (y ∷ []))) h
   still_in h inside = contains_later g h (xs ++ (y ∷ [])) (elim (contains_cases y h xs inside) [
-    | inl is ↦ subst (Contains (xs ++ (y ∷ []))) is (Contains-append_right xs (y ∷ []) y (contains_first y []))
+    | inl is ↦ subst (Contains (xs ++ (y ∷ []))) is (Contains-push xs y)
     | inr there ↦ Contains-append_left xs (y ∷ []) h there
   ])
 
@@ -83,17 +77,21 @@ module _ (gates : Gates) (old : ProofLog) (new : ProofLog) (g : Group) (known : 
       after.variables ≡ gates.variables → after.unfinished ≡ gates.unfinished → HasBegunGroup gates after old new
   named_alone after group earlier variables unfinished = record {
     known = other_gates gates after new.entries variables (unfinished ∙ ready) ready known_still
-        (λ h inside. known_still.made h (subst (λ gs. Contains gs h) groups_same inside))
-        (λ h inside. known_still.own h (subst (λ gs. Contains gs h) groups_same inside))
-        (λ h inside. subst (λ gs. Contains gs h) (sym groups_same) inside);
+        (λ h inside. known_still.made h (was h inside)) (λ h inside. known_still.own h (was h inside)) kept;
     ready = unfinished ∙ ready;
-    kept = λ h inside. subst (λ gs. Contains gs h) (sym groups_same) inside;
-    fresh = λ h inside. inl (subst (λ gs. Contains gs h) groups_same inside);
+    kept = kept;
+    fresh = λ h inside. inl (was h inside);
     group = inl group;
     log = inr (sel, unnamed, is);
   } where
     groups_same : groups_of after ≡ groups_of gates
     groups_same = ap (λ h. h ∷ after.earlier.items) group ∙ ap (λ hs. gates.group ∷ hs) earlier
+
+    was : (h : Group) → Contains (groups_of after) h → Contains (groups_of gates) h
+    was h = subst (λ gs. Contains gs h) groups_same
+
+    kept : (h : Group) → Contains (groups_of gates) h → Contains (groups_of after) h
+    kept h = subst (λ gs. Contains gs h) (sym groups_same)
 
   -- or go to the group
   pub group_begun : (after : Gates) → Each IsGivenToGroup old.entries → after.group ≡ g →

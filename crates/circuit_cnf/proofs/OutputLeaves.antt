@@ -10,10 +10,9 @@ use Rattle.dq_lits.specs.Row.{bit_of}
 use Rattle.aig_graph.specs.declared.nodes.Node.{Node}
 use Rattle.aig_graph.specs.Graph.{AigGraph, IsEarlierNode}
 use Rattle.aig_graph.specs.Marking.{IsInCone, root, left, right}
-use Rattle.hint_log.specs.Entries.{Entry}
+use Rattle.hint_log.specs.Entries.{Entry, ProofLog}
 use Rattle.hint_log.specs.declared.names.Name.TheVariants.{Input as InputName}
 use Rattle.hint_log.specs.declared.origins.Leaf.{Leaf}
-use Rattle.hint_log.specs.Entries.{ProofLog}
 use Rattle.hint_log.specs.Naming.{named_literal}
 use Rattle.hint_log.specs.ProductiveLog.{fault_groups, fault_room}
 use Rattle.log_laws.specs.Engines.{circuits, LeavesRest}

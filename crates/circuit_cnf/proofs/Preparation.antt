@@ -8,13 +8,12 @@ use Rattle.hint_log.specs.Naming.{named_literal}
 use Rattle.hint_log.specs.ProductiveLog.{fault_groups, fault_room}
 use Rattle.hint_log.specs.declared.names.Name.TheVariants.{Input, Selector}
 use Rattle.log_laws.specs.Engines.{circuits, IsAddedBy}
-use Rattle.log_laws.proofs.Kept.{named_stay, some_stays}
+use Rattle.log_laws.proofs.Kept.{named_stay, some_stays, unnamed_earlier}
 use Rattle.circuit_cnf.specs.declared.checkers.Checker.{Checker}
 use Rattle.circuit_cnf.specs.Checking.{AreInputs, IsChecker, gate_groups, group_of}
 use Rattle.circuit_cnf.specs.Gates.{AreKnown, GrewByGates, HasBegunGroup, groups_of}
 use Rattle.circuit_cnf.specs.Turning.{HasTurned, IsAtTurnLimit, IsPrepared}
 use Rattle.log_laws.proofs.LargerLogs.{leaves_rest}
-use Rattle.log_laws.proofs.Kept.{unnamed_earlier}
 use Rattle.circuit_cnf.proofs.TurnGrowth.{group_grew}
 use Rattle.circuit_cnf.proofs.TurnStages.{leaves_turned, turned_then}
 use Rattle.circuit_cnf.proofs.UnchangedCheckers.{checker_stays, leaves_elsewhere}

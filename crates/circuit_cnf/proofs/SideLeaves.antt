@@ -9,12 +9,11 @@ use Rattle.aig_graph.specs.declared.nodes.Node.TheVariants.{Constant, Input, Gat
 use Rattle.aig_graph.specs.declared.nodes.Sides.{Sides}
 use Rattle.aig_graph.specs.declared.nodes.Look.TheVariants.{Gate as LookGate}
 use Rattle.aig_graph.specs.Graph.{AigGraph, IsEarlierNode, AreSides, IsGateLook, gate_at, place_of}
-use Rattle.hint_log.specs.Entries.{Entry}
+use Rattle.hint_log.specs.Entries.{Entry, name_of}
 use Rattle.hint_log.specs.declared.names.Name.TheVariants.{Input as InputName, And}
 use Rattle.hint_log.specs.declared.origins.Leaf.{Leaf}
 use Rattle.hint_log.specs.declared.origins.Leaf.TheVariants.{Literal as LeafLiteral}
 use Rattle.hint_log.specs.Conditions.{is_circuit_name}
-use Rattle.hint_log.specs.Entries.{name_of}
 use Rattle.hint_log.specs.Origins.{leaf_with_sign}
 use Rattle.log_laws.proofs.Found.{named_variable, slice_get_at}
 use Rattle.log_laws.proofs.Kept.{NamesStay}
@@ -43,8 +42,6 @@ input_at es (u ∷ us) (l ∷ ls) (suc i) h below = search (arith, (input_at es 
 gate_sign : (f : Dqbf) (graph : AigGraph) (es : List Entry) (n : Node) (leaf : Leaf) → HasLeaf f graph es n leaf →
     (g : ℕ) (l : Literal) → n ≡ Gate g false → leaf ≡ LeafLiteral l → (negated : Bool) →
     HasLeaf f graph es (Gate g negated) (leaf_with_sign negated (LeafLiteral l))
-gate_sign f graph es _ _ (constant b) g l is leaf_is negated = cc
-gate_sign f graph es _ _ (input i x v s at named) g l is leaf_is negated = cc
 gate_sign f graph es _ _ (gate h v sides s a b at are on_left on_right named) g l is leaf_is negated =
     let number : h ≡ g = cc in
     let plain : s ≡ false = cc in
@@ -55,6 +52,7 @@ gate_sign f graph es _ _ (gate h v sides s a b at are on_left on_right named) g 
     (gate h v sides negated a b at are on_left on_right named)) where
       some_leaf : (x y : Literal) → LeafLiteral x ≡ LeafLiteral y → x ≡ y
       some_leaf x y e = cc
+gate_sign f graph es _ _ _ g l is leaf_is negated = cc
 
 -- a leaf that isn't constant stands on an input or a gate
 signed_variable : (s : Bool) (v : ℕ) (l : Literal) → leaf_with_sign s (LeafLiteral (positive v)) ≡ LeafLiteral l →

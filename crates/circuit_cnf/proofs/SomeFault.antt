@@ -7,12 +7,10 @@ use Rattle.std.proofs.lemmas.List.Elements.{All-from_recursion}
 use Rattle.dq_lits.specs.Literal.{Literal, negative, variable_of, is_negative, opposite}
 use Rattle.dq_lits.specs.Formula.{Dqbf}
 use Rattle.dq_lits.proofs.SignedLiterals.{negated-positive}
-use Rattle.hint_log.specs.Entries.{Entry}
-use Rattle.hint_log.specs.Entries.{Given}
+use Rattle.hint_log.specs.Entries.{Entry, Given, ProofLog, with_entry, name_of}
 use Rattle.hint_log.specs.declared.names.Name.TheVariants.{Selector}
 use Rattle.hint_log.specs.declared.origins.Leaf.TheVariants.{Constant}
 use Rattle.hint_log.specs.declared.origins.Origin.TheVariants.{Fault}
-use Rattle.hint_log.specs.Entries.{ProofLog, with_entry, name_of}
 use Rattle.hint_log.specs.Growth.{Grew}
 use Rattle.hint_log.specs.Origins.{matrix_literal}
 use Rattle.hint_log.specs.Naming.{AreNamedAs}

@@ -9,12 +9,11 @@ use Rattle.aig_graph.specs.declared.nodes.Node.{Node}
 use Rattle.aig_graph.specs.declared.nodes.Node.TheVariants.{Constant}
 use Rattle.aig_graph.specs.Graph.{AigGraph}
 use Rattle.aig_graph.specs.Outputs.{output_node, outputs_of}
-use Rattle.hint_log.specs.Entries.{Entry}
+use Rattle.hint_log.specs.Entries.{Entry, name_of}
 use Rattle.hint_log.specs.declared.names.Name.TheVariants.{Input as InputName}
 use Rattle.hint_log.specs.declared.origins.Leaf.{Leaf}
 use Rattle.hint_log.specs.declared.origins.Leaf.TheVariants.{Constant as LeafConstant, Literal as LeafLiteral}
 use Rattle.hint_log.specs.Conditions.{is_circuit_name}
-use Rattle.hint_log.specs.Entries.{name_of}
 use Rattle.hint_log.specs.Origins.{IsLeafOf}
 use Rattle.log_laws.proofs.Found.{slice_get_at}
 use Rattle.circuit_cnf.specs.Checking.{AreInputs}

@@ -3,11 +3,9 @@ use Rattle.std.proofs.Common.{◌≡◌, ℕ, ◌≤◌, Bool, true, false, true
 use Rattle.std.specs.List.{list_any}
 use Rattle.dq_lits.specs.Literal.{Literal, negative, same_literal}
 use Rattle.dq_lits.specs.Formula.{Dqbf}
-use Rattle.hint_log.specs.Entries.{Entry}
-use Rattle.hint_log.specs.Entries.{Named, Given, Learned, Answer, Round, Begun}
+use Rattle.hint_log.specs.Entries.{Entry, Named, Given, Learned, Answer, ProofLog, with_entry, name_of}
 use Rattle.hint_log.specs.declared.names.Name.TheVariants.{Selector}
 use Rattle.hint_log.specs.declared.origins.Leaf.TheVariants.{Constant}
-use Rattle.hint_log.specs.Entries.{ProofLog, with_entry, name_of}
 use Rattle.hint_log.specs.Growth.{EachOf, Grew}
 use Rattle.hint_log.specs.ProductiveLog.{fault_groups, fault_room}
 use Rattle.log_laws.specs.Engines.{Engine, IsAddedBy, IsNamedBy}
@@ -19,21 +17,13 @@ use Rattle.circuit_cnf.specs.Faults.{AreFewWith}
 module _ (f : Dqbf) (engine : Engine) (group : ℕ) (silent : Bool) (start : List Entry) where
   quieter : (earlier : List Entry) (e : Entry) → IsAddedBy f engine group true start earlier e →
       IsAddedBy f engine group silent start earlier e
-  quieter earlier (Named v n) h = h
-  quieter earlier (Given origin c) h = h
-  quieter earlier (Learned c hints) h = h
   quieter earlier (Answer c hints) h = λ quiet. h refl
-  quieter earlier (Round row values j) h = h
-  quieter earlier (Begun live) h = h
+  quieter earlier _ h = h
 
   learned_is_added : (earlier : List Entry) (e : Entry) → IsLearnedEntry earlier e →
       IsAddedBy f engine group silent start earlier e
-  learned_is_added earlier (Named v n) h = absurd h
-  learned_is_added earlier (Given origin c) h = absurd h
   learned_is_added earlier (Learned c hints) h = tt
-  learned_is_added earlier (Answer c hints) h = absurd h
-  learned_is_added earlier (Round row values j) h = absurd h
-  learned_is_added earlier (Begun live) h = absurd h
+  learned_is_added earlier _ h = absurd h
 
   -- a silent growth is one that may decide
   pub any_silence : (old new : ProofLog) → Grew (IsAddedBy f engine group true start) old new →
@@ -71,12 +61,8 @@ module _ (f : Dqbf) (engine : Engine) (group : ℕ) (silent : Bool) (first start
 
   earlier_start : (earlier : List Entry) (e : Entry) → IsAddedBy f engine group silent start earlier e →
       IsAddedBy f engine group silent first earlier e
-  earlier_start earlier (Named v n) h = h
   earlier_start earlier (Given origin c) h = search (arith, new_before)
-  earlier_start earlier (Learned c hints) h = h
-  earlier_start earlier (Answer c hints) h = h
-  earlier_start earlier (Round row values j) h = h
-  earlier_start earlier (Begun live) h = h
+  earlier_start earlier _ h = h
 
   pub grew_since : (old new : ProofLog) → Grew (IsAddedBy f engine group silent start) old new →
       Grew (IsAddedBy f engine group silent first) old new
@@ -91,12 +77,8 @@ module _ (f : Dqbf) (engine : Engine) (group standing : ℕ) (silent : Bool) (st
 
   other_entry : (earlier : List Entry) (e : Entry) → IsAddedBy f engine group silent start earlier e →
       IsAddedBy f engine standing silent start earlier e
-  other_entry earlier (Named v n) h = h
   other_entry earlier (Given origin c) h = search (arith, beside)
-  other_entry earlier (Learned c hints) h = h
-  other_entry earlier (Answer c hints) h = h
-  other_entry earlier (Round row values j) h = h
-  other_entry earlier (Begun live) h = h
+  other_entry earlier _ h = h
 
   pub other_standing : (old log : ProofLog) → Grew (IsAddedBy f engine group silent start) old log →
       Grew (IsAddedBy f engine standing silent start) old log
@@ -106,12 +88,8 @@ module _ (f : Dqbf) (engine : Engine) (group standing : ℕ) (silent : Bool) (st
 pub learned_faults : (more old : List Entry) → EachOf IsLearnedEntry more old →
     (fault_groups (more ++ old) ≡ fault_groups old) × (fault_room (more ++ old) ≡ fault_room old)
 learned_faults [] old h = (refl, refl)
-learned_faults (Named v n ∷ more) old h = absurd h.0
-learned_faults (Given origin c ∷ more) old h = absurd h.0
 learned_faults (Learned c hints ∷ more) old h = learned_faults more old h.1
-learned_faults (Answer c hints ∷ more) old h = absurd h.0
-learned_faults (Round row values j ∷ more) old h = absurd h.0
-learned_faults (Begun live ∷ more) old h = absurd h.0
+learned_faults (_ ∷ more) old h = absurd h.0
 
 abbrev pub AreFewFaults : List Entry → Type 0
 AreFewFaults entries = length (fault_groups entries) ≤ fault_room entries

@@ -2,12 +2,10 @@
 use Rattle.std.proofs.Common.{◌≡◌, ◌≢◌, ℕ, ◌<◌, Bool, true, false, inl, inr, ◌⊎◌, List, [], ◌∷◌, length, Some, None, IsSome, refl, sym, ◌∙◌, ap, subst, arith}
 use Rattle.dq_lits.specs.Literal.{Literal, negative, variable_of}
 use Rattle.dq_lits.specs.Formula.{Dqbf}
-use Rattle.hint_log.specs.Entries.{Entry}
-use Rattle.hint_log.specs.Entries.{Named, Given, Learned, Answer, Round, Begun}
+use Rattle.hint_log.specs.Entries.{Entry, Named, Given, Answer, Round, Begun, ProofLog, name_of}
 use Rattle.hint_log.specs.declared.names.Name.TheVariants.{Selector}
 use Rattle.hint_log.specs.declared.origins.Leaf.{Leaf}
 use Rattle.hint_log.specs.declared.origins.Origin.TheVariants.{Fault}
-use Rattle.hint_log.specs.Entries.{ProofLog, name_of}
 use Rattle.hint_log.specs.Growth.{Each, Grew}
 use Rattle.hint_log.specs.ProductiveLog.{fault_groups, fault_room}
 use Rattle.log_laws.specs.Engines.{circuits, IsOwnGiven, IsAddedBy, LeavesRest}
@@ -31,21 +29,15 @@ use Rattle.circuit_cnf.proofs.TurnGrowth.{AreFewFaults, any_silence, grew_since,
 
 unused_own : (f : Dqbf) (group : ℕ) (earlier : List Entry) (e : Entry) → IsUnused group earlier e →
     IsOwnGiven f circuits group earlier e
-unused_own f group earlier (Named v n) h = tt
 unused_own f group earlier (Given origin c) h = λ inside. absurd (h inside)
-unused_own f group earlier (Learned c hints) h = tt
-unused_own f group earlier (Answer c hints) h = tt
-unused_own f group earlier (Round row values j) h = tt
-unused_own f group earlier (Begun live) h = tt
+unused_own f group earlier _ h = tt
 
 added_own : (f : Dqbf) (standing : ℕ) (start : List Entry) (group : ℕ) (earlier : List Entry) (e : Entry) →
     IsAddedBy f circuits standing true start earlier e → IsOwnGiven f circuits group earlier e
-added_own f standing start group earlier (Named v n) h = tt
 added_own f standing start group earlier (Given origin c) h = λ inside. (h.own, h.matches_origin)
-added_own f standing start group earlier (Learned c hints) h = tt
-added_own f standing start group earlier (Answer c hints) h = tt
 added_own f standing start group earlier (Round row values j) h = absurd h
 added_own f standing start group earlier (Begun live) h = absurd h
+added_own f standing start group earlier _ h = tt
 
 module _ (f : Dqbf) (checker : Checker) (leaf : ℕ → Leaf) (old first : ProofLog) (group : Group)
     (m : IsGroupMade f checker old first group) where

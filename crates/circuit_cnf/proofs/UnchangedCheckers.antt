@@ -6,13 +6,11 @@ use Rattle.std.proofs.lemmas.List.Elements.{Contains-append_right}
 use Rattle.list_laws.proofs.Members.{contains_later, contains_cases}
 use Rattle.dq_lits.specs.Literal.{Literal, variable_of}
 use Rattle.dq_lits.specs.Formula.{Dqbf}
-use Rattle.hint_log.specs.Entries.{Entry}
-use Rattle.hint_log.specs.Entries.{Named, Given, Learned, Answer, Round, Begun}
+use Rattle.hint_log.specs.Entries.{Entry, Named, Given, Learned, Answer, Round, Begun, ProofLog, name_of}
 use Rattle.hint_log.specs.declared.names.Name.{Name}
 use Rattle.hint_log.specs.declared.names.Name.TheVariants.{And, Bad, Selector}
 use Rattle.hint_log.specs.declared.origins.Origin.{Origin}
 use Rattle.hint_log.specs.declared.origins.Origin.TheVariants.{Gate}
-use Rattle.hint_log.specs.Entries.{ProofLog, name_of}
 use Rattle.hint_log.specs.Growth.{Each, EachOf, Grew}
 use Rattle.log_laws.specs.Engines.{Engine, circuits, same_engine, name_engine, origin_engine, is_engine, is_own, IsInGroup, IsAddedBy}
 use Rattle.log_laws.proofs.LargerLogs.{each_grown}
@@ -115,10 +113,7 @@ leaves_elsewhere gates es (Given origin d) h = record {
     | inl is ↦ absurd (false≢true (sym h.0 ∙ ap (is_own circuits) is))
     | inr later ↦ later
   ]
-leaves_elsewhere gates es (Learned c hints) h = search (arith, (leaves_plain gates es (Learned c hints)))
-leaves_elsewhere gates es (Answer c hints) h = search (arith, (leaves_plain gates es (Answer c hints)))
-leaves_elsewhere gates es (Round row values j) h = search (arith, (leaves_plain gates es (Round row values j)))
-leaves_elsewhere gates es (Begun live) h = search (arith, (leaves_plain gates es (Begun live)))
+leaves_elsewhere gates es e h = search (arith, (leaves_plain gates es e))
 
 pub all_elsewhere : (gates : Gates) (more old : List Entry) →
     EachOf (IsElsewhere (groups_of gates)) more old → LeavesGates gates old (more ++ old)
@@ -128,12 +123,8 @@ all_elsewhere gates (e ∷ more) old h = leaves_then gates old (more ++ old) (e 
 
 learned_elsewhere : (groups : List Group) (earlier : List Entry) (e : Entry) → IsLearnedEntry earlier e →
     IsElsewhere groups earlier e
-learned_elsewhere groups earlier (Named v n) h = absurd h
-learned_elsewhere groups earlier (Given origin c) h = absurd h
 learned_elsewhere groups earlier (Learned c hints) h = tt
-learned_elsewhere groups earlier (Answer c hints) h = absurd h
-learned_elsewhere groups earlier (Round row values j) h = absurd h
-learned_elsewhere groups earlier (Begun live) h = absurd h
+learned_elsewhere groups earlier _ h = absurd h
 
 pub learned_leaves : (gates : Gates) (old new : ProofLog) → Grew IsLearnedEntry old new →
     LeavesGates gates old.entries new.entries
@@ -173,29 +164,20 @@ module _ (f : Dqbf) (engine : Engine) (group : ℕ) (silent : Bool) (start : Lis
   )
   others_elsewhere mine differ apart made earlier (Learned c hints) h = tt
   others_elsewhere mine differ apart made earlier (Answer c hints) h = tt
-  others_elsewhere mine differ apart made earlier (Round row values j) h = absurd h
-  others_elsewhere mine differ apart made earlier (Begun live) h = absurd h
+  others_elsewhere mine differ apart made earlier _ h = absurd h
 
   no_gates_given : (mine : ℕ) (n : Name) → mine ≢ group → name_of start mine ≡ Some n →
       (earlier : List Entry) (e : Entry) → Added earlier e → IsGateGiven mine earlier e
-  no_gates_given mine n apart named earlier (Named v m) h = tt
   no_gates_given mine n apart named earlier (Given origin c) h = search arith
-  no_gates_given mine n apart named earlier (Learned c hints) h = tt
-  no_gates_given mine n apart named earlier (Answer c hints) h = tt
   no_gates_given mine n apart named earlier (Round row values j) h = absurd h
   no_gates_given mine n apart named earlier (Begun live) h = absurd h
+  no_gates_given mine n apart named earlier _ h = tt
 
   step_stays : (es : List Entry) (e : Entry) → Added es e → NamesStay es (e ∷ es)
   step_stays es (Named v n) h = name_stays_by es v n h.unnamed
-  step_stays es (Given origin c) h = λ v n is. is
-  step_stays es (Learned c hints) h = λ v n is. is
-  step_stays es (Answer c hints) h = λ v n is. is
   step_stays es (Round row values j) h = absurd h
   step_stays es (Begun live) h = absurd h
-
-  pub added_stay : (more old : List Entry) → EachOf Added more old → NamesStay old (more ++ old)
-  added_stay [] old h = λ v n is. is
-  added_stay (e ∷ more) old h = λ v n is. step_stays (more ++ old) e h.0 v n (added_stay more old h.1 v n is)
+  step_stays es _ h = λ v n is. is
 
   gate_is_named : (es : List Entry) (e : Entry) (v i : ℕ) (c : List Literal) → Added es e → e ≡ Given (Gate v i) c →
       IsSome (name_of (e ∷ es) v)

@@ -3,10 +3,8 @@ use Rattle.std.specs.Prelude.{◌≡◌, ◌≢◌, ℕ, Bool, false, List, ◌�
 use Rattle.std.specs.List.{Contains}
 use Rattle.dq_lits.specs.Literal.{Literal, variable_of}
 use Rattle.dq_lits.specs.Formula.{Dqbf}
-use Rattle.hint_log.specs.Entries.{Entry}
+use Rattle.hint_log.specs.Entries.{Entry, Round, ProofLog, name_of}
 use Rattle.hint_log.specs.declared.names.Name.TheVariants.{Input, Bad}
-use Rattle.hint_log.specs.Entries.{Round}
-use Rattle.hint_log.specs.Entries.{ProofLog, name_of}
 use Rattle.hint_log.specs.Growth.{Grew}
 use Rattle.log_laws.specs.Engines.{Engine, circuits, same_engine, IsAddedBy}
 use Rattle.hint_log.specs.Naming.{named_literal, AreNamedAs}

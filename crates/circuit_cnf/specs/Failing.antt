@@ -5,8 +5,7 @@ use Rattle.dq_lits.specs.Literal.{Literal, clause_true}
 use Rattle.dq_lits.specs.Formula.{Existential, Dqbf}
 use Rattle.dq_lits.specs.Skolem.{OutputFunction}
 use Rattle.dq_lits.specs.Expansion.{row_assignment}
-use Rattle.hint_log.specs.Entries.{Entry}
-use Rattle.hint_log.specs.Entries.{Round}
+use Rattle.hint_log.specs.Entries.{Entry, Round}
 use Rattle.hint_log.specs.Naming.{numbered_from_one, round_assignment, rows_of}
 use Rattle.hint_log.specs.ProductiveLog.{RefutesNewRow}
 use Rattle.hint_log.specs.declared.stops.Stop.{Stop}

@@ -2,11 +2,9 @@
 use Rattle.std.specs.Prelude.{◌≡◌, ℕ, List, Some}
 use Rattle.std.specs.List.{Contains}
 use Rattle.dq_lits.specs.Literal.{Literal}
-use Rattle.hint_log.specs.Entries.{Entry}
-use Rattle.hint_log.specs.Entries.{Given}
+use Rattle.hint_log.specs.Entries.{Entry, Given, name_of}
 use Rattle.hint_log.specs.declared.names.Name.TheVariants.{Input, And, Bad}
 use Rattle.hint_log.specs.declared.origins.Origin.TheVariants.{Gate}
-use Rattle.hint_log.specs.Entries.{name_of}
 
 pub record HasNoGates (entries : List Entry) : Type 0 where
   pub unnamed : (v : ℕ) (a b : Literal) → name_of entries v ≡ Some (And a b) → ⊥

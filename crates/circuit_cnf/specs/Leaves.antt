@@ -9,13 +9,12 @@ use Rattle.aig_graph.specs.declared.nodes.Node.TheVariants.{Constant, Input, Gat
 use Rattle.aig_graph.specs.declared.nodes.Sides.{Sides}
 use Rattle.aig_graph.specs.Graph.{AigGraph, AreSides, gate_at, place_of}
 use Rattle.aig_graph.specs.Outputs.{node_output}
-use Rattle.hint_log.specs.Entries.{Entry}
+use Rattle.hint_log.specs.Entries.{Entry, name_of}
 use Rattle.hint_log.specs.declared.names.Name.TheVariants.{Input as InputName, And}
 use Rattle.hint_log.specs.declared.origins.Leaf.{Leaf}
 use Rattle.hint_log.specs.declared.origins.Leaf.TheVariants.{Constant as LeafConstant, Literal as LeafLiteral}
 use Rattle.hint_log.specs.Conditions.{AreLogged}
 use Rattle.hint_log.specs.Deciding.{LeafReads}
-use Rattle.hint_log.specs.Entries.{name_of}
 use Rattle.hint_log.specs.Origins.{leaf_with_sign}
 use Rattle.log_laws.specs.Circuits.{value_in, leaf_value}
 

@@ -8,11 +8,9 @@ use Rattle.dq_lits.specs.Skolem.{OutputFunction}
 use Rattle.aig_graph.specs.declared.nodes.Node.{Node}
 use Rattle.aig_graph.specs.Graph.{AigGraph}
 use Rattle.aig_graph.specs.Outputs.{output_node, outputs_of, ReadDeclared}
-use Rattle.hint_log.specs.Entries.{Entry}
-use Rattle.hint_log.specs.Entries.{Answer}
+use Rattle.hint_log.specs.Entries.{Entry, Answer, name_of, last_id}
 use Rattle.hint_log.specs.declared.origins.Leaf.{Leaf}
 use Rattle.hint_log.specs.Deciding.{RestsOnCircuit, IsFaultLeaf, DecidesTrue}
-use Rattle.hint_log.specs.Entries.{name_of, last_id}
 use Rattle.log_laws.specs.Meaning.{IsSoundAnswer}
 use Rattle.circuit_cnf.specs.Leaves.{HasLeaf}
 
