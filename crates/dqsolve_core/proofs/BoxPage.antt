@@ -12,7 +12,7 @@ use Rattle.pec_front.specs.Reading.{IsDesignReading}
 use Rattle.pec_runs.specs.DesignFiles.{design_line}
 use Rattle.pec_runs.specs.declared.designs.ImpFault.TheVariants.{Circuit, Design}
 use Rattle.pec_runs.specs.declared.designs.NoDesign.{NoDesign}
-use Rattle.pec_runs.specs.declared.designs.NoDesign.TheVariants.{LongImp, LongSpec, RefusedImp, RefusedSpec, Unreadable}
+use Rattle.pec_runs.specs.declared.designs.NoDesign.TheVariants.{RefusedImp}
 use Rattle.verdict_texts.specs.Verdicts.{Verdict, is_false, is_true, is_unknown, verdict_status}
 use Rattle.dqsolve_words.specs.Command.{Command, Comparison, pec}
 use Rattle.dqsolve_core.specs.ToldCircuits.{AnswersFor, AreDesignTexts, IsCompared, IsSaid, IsTextRefusal, SaysOfBoxes}
@@ -27,18 +27,12 @@ BoxLaw =
     (page : PageDesign) × IsOnPage specification implementation d page
 
 not_said : (said : NoDesign) (status : ℕ) → IsEither status → status ≡ (design_line said).status → ⊥
-not_said Unreadable status (inl is) ends = omega (arith, is, ends)
-not_said Unreadable status (inr is) ends = omega (arith, is, ends)
-not_said LongSpec status (inl is) ends = omega (arith, is, ends)
-not_said LongSpec status (inr is) ends = omega (arith, is, ends)
-not_said LongImp status (inl is) ends = omega (arith, is, ends)
-not_said LongImp status (inr is) ends = omega (arith, is, ends)
-not_said (RefusedSpec line name) status (inl is) ends = omega (arith, is, ends)
-not_said (RefusedSpec line name) status (inr is) ends = omega (arith, is, ends)
 not_said (RefusedImp line (Circuit name)) status (inl is) ends = omega (arith, is, ends)
 not_said (RefusedImp line (Circuit name)) status (inr is) ends = omega (arith, is, ends)
 not_said (RefusedImp line (Design name)) status (inl is) ends = omega (arith, is, ends)
 not_said (RefusedImp line (Design name)) status (inr is) ends = omega (arith, is, ends)
+not_said _ status (inl is) ends = omega (arith, is, ends)
+not_said _ status (inr is) ends = omega (arith, is, ends)
 
 module _ (specification implementation : List ℕ) (d : PartialDesign) (page : PageDesign)
     (on : IsOnPage specification implementation d page) (status : ℕ) (either : IsEither status) where

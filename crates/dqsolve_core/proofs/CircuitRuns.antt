@@ -16,7 +16,7 @@ use Rattle.pec_runs.specs.Encoded.{IsEncodeDue}
 use Rattle.pec_runs.specs.declared.designs.DesignStop.{DesignStop}
 use Rattle.pec_runs.specs.declared.designs.DesignStop.TheVariants.{Said}
 use Rattle.pec_runs.specs.declared.designs.NoDesign.{NoDesign}
-use Rattle.pec_runs.specs.declared.designs.NoDesign.TheVariants.{Unreadable, LongSpec, LongImp, RefusedSpec, RefusedImp}
+use Rattle.pec_runs.specs.declared.designs.NoDesign.TheVariants.{Unreadable, LongSpec, LongImp}
 use Rattle.dqsolve_words.specs.Command.{Circuits, Comparison, Command, pec, encode}
 use Rattle.dqsolve_core.specs.Outputs.{IsReported}
 use Rattle.dqsolve_core.specs.Report.{ComparisonReport, no_design, compared, printed_comparison}
@@ -41,11 +41,9 @@ comparison_reported before now log c f (Err _) is picked unfaulted limit v = tt
 -- only a length has status 6, and only a file that can't be read has status 3
 pub said_long : (before now : FilesState) (spec imp : List ℕ) (said : NoDesign) → IsNoDesign before now spec imp said
     → (design_line said).status ≡ 6 → max_circuit < now.given
-said_long before now spec imp Unreadable is six = absurd (omega (arith, six))
 said_long before now spec imp LongSpec is six = is.0.given
 said_long before now spec imp LongImp is six = is.1.given
-said_long before now spec imp (RefusedSpec line name) is six = absurd (omega (arith, six))
-said_long before now spec imp (RefusedImp line name) is six = absurd (omega (arith, six))
+said_long before now spec imp _ is six = absurd (omega (arith, six))
 
 -- the files give no design
 pub refusal_reported : (before now : FilesState) (log : ProofLog) (c : Comparison) (said : NoDesign)
@@ -76,22 +74,12 @@ refusal_reasons before now c spec imp Unreadable (inr (first, is, picked)) = rec
   source = λ _. is.counted;
   delivered = λ h. omega (arith, h);
 }
-refusal_reasons before now c spec imp LongSpec is = record {
-  words = λ h. absurd (omega (arith, h));
-  source = λ h. absurd (omega (arith, h));
-  delivered = λ h. omega (arith, h);
-}
 refusal_reasons before now c spec imp LongImp is = record {
   words = λ h. absurd (omega (arith, h));
   source = λ h. absurd (omega (arith, h));
   delivered = λ h. omega (arith, h);
 }
-refusal_reasons before now c spec imp (RefusedSpec line name) is = record {
-  words = λ h. absurd (omega (arith, h));
-  source = λ h. absurd (omega (arith, h));
-  delivered = λ h. omega (arith, h);
-}
-refusal_reasons before now c spec imp (RefusedImp line name) is = record {
+refusal_reasons before now c spec imp _ is = record {
   words = λ h. absurd (omega (arith, h));
   source = λ h. absurd (omega (arith, h));
   delivered = λ h. omega (arith, h);
@@ -120,11 +108,8 @@ encode_reasons before now c p (inr (f, is, picked, same)) =
 -- ---- where no verdict was found
 
 some_status : (said : NoDesign) → (design_line said).status ≡ 0 → ⊥
-some_status Unreadable zero = omega (arith, zero)
-some_status LongSpec zero = omega (arith, zero)
 some_status LongImp zero = omega (arith, zero)
-some_status (RefusedSpec line name) zero = omega (arith, zero)
-some_status (RefusedImp line name) zero = omega (arith, zero)
+some_status _ zero = omega (arith, zero)
 
 pub comparison_steps : (before now : FilesState) (log : ProofLog) (c : Comparison) (report : ComparisonReport)
     → IsDueForCircuits before now log c report → (printed_comparison report).status ≡ 0
@@ -142,10 +127,7 @@ said_of before now spec imp r stop said is kind read =
 
 said_other : (said : NoDesign) → said ≢ Unreadable → IsUnreadableStop (Err (Said said)) → ⊥
 said_other Unreadable other is = other refl
-said_other LongSpec other is = is
-said_other LongImp other is = is
-said_other (RefusedSpec line name) other is = is
-said_other (RefusedImp line name) other is = is
+said_other _ other is = is
 
 -- files of which something else is said counted no fault
 pub was_read : (r : Result Dqbf DesignStop) (stop : DesignStop) (said : NoDesign) → r ≡ Err stop

@@ -74,12 +74,7 @@ said_reasons before now c Unreadable is = record {
   source = λ _. is.counted;
   delivered = λ h. omega (arith, h);
 }
-said_reasons before now c TooLong is = record {
-  words = λ h. absurd (omega (arith, h));
-  source = λ h. absurd (omega (arith, h));
-  delivered = λ h. omega (arith, h);
-}
-said_reasons before now c (Refused line name) is = record {
+said_reasons before now c _ is = record {
   words = λ h. absurd (omega (arith, h));
   source = λ h. absurd (omega (arith, h));
   delivered = λ h. omega (arith, h);
@@ -99,9 +94,8 @@ found_steps log f (written blocks) are zero = absurd (omega (arith, zero))
 found_steps log f (cut_off learned) are zero = are.limit.1.reached
 
 some_status : (said : NoFormula) → (formula_line said).status ≡ 0 → ⊥
-some_status Unreadable zero = omega (arith, zero)
 some_status TooLong zero = omega (arith, zero)
-some_status (Refused line name) zero = omega (arith, zero)
+some_status _ zero = omega (arith, zero)
 
 pub defined_steps : (before now : FilesState) (log : ProofLog) (c : Defining) (p : Printed) →
     IsDefinedDue before now log c.file p → p.status ≡ 0 → steps_of log.entries ≡ log.limit
@@ -120,12 +114,10 @@ defined_of files now log c p sink sink_now status limit due w =
     record { found = due.found; limit = limit; are = due.are; ends_with = is.ends_with; written = is.taken }
 
 other_status : (said : NoFormula) (status : ℕ) → status ≡ (formula_line said).status → (status ≡ 30) ⊎ (status ≡ 0) → ⊥
-other_status Unreadable status is (inl thirty) = omega (arith, is, thirty)
-other_status Unreadable status is (inr zero) = omega (arith, is, zero)
 other_status TooLong status is (inl thirty) = omega (arith, is, thirty)
 other_status TooLong status is (inr zero) = omega (arith, is, zero)
-other_status (Refused line name) status is (inl thirty) = omega (arith, is, thirty)
-other_status (Refused line name) status is (inr zero) = omega (arith, is, zero)
+other_status _ status is (inl thirty) = omega (arith, is, thirty)
+other_status _ status is (inr zero) = omega (arith, is, zero)
 
 right_by : (files now : FilesState) (log : ProofLog) (c : Defining) (formula : List ℕ) (p : Printed)
     (sink sink_now : SinkState) (status : ℕ) → files.held c.file ≡ Holds formula → log.limit ≡ c.steps →

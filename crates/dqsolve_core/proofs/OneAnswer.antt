@@ -166,26 +166,23 @@ module _ (law : CircuitLaw) (spec imp : List ℕ) where
 
   refusals_same : (a b : NoDesign) → IsTextRefusal spec imp a → IsTextRefusal spec imp b → a ≡ b
   refusals_same Unreadable b one two = absurd one
-  refusals_same LongSpec Unreadable one two = absurd two
   refusals_same LongSpec LongSpec one two = refl
   refusals_same LongSpec LongImp one two = absurd (long_or_short two.0 one)
   refusals_same LongSpec (RefusedSpec l b) one two = absurd (long_or_short two.0.0 one)
   refusals_same LongSpec (RefusedImp l b) one two = absurd (long_or_short (refused_imp_short l b two).0 one)
-  refusals_same LongImp Unreadable one two = absurd two
   refusals_same LongImp LongSpec one two = absurd (long_or_short one.0 two)
   refusals_same LongImp LongImp one two = refl
   refusals_same LongImp (RefusedSpec l b) one two = absurd (imp_long_or_short two.0.1 one.1)
   refusals_same LongImp (RefusedImp l b) one two = absurd (imp_long_or_short (refused_imp_short l b two).1 one.1)
-  refusals_same (RefusedSpec k a) Unreadable one two = absurd two
   refusals_same (RefusedSpec k a) LongSpec one two = absurd (long_or_short one.0.0 two)
   refusals_same (RefusedSpec k a) LongImp one two = absurd (imp_long_or_short one.0.1 two.1)
   refusals_same (RefusedSpec k a) (RefusedSpec l b) one two = spec_fault k l a b one.1 two.1
   refusals_same (RefusedSpec k a) (RefusedImp l b) one two = absurd (spec_or_imp k l a b one two)
-  refusals_same (RefusedImp k a) Unreadable one two = absurd two
   refusals_same (RefusedImp k a) LongSpec one two = absurd (long_or_short (refused_imp_short k a one).0 two)
   refusals_same (RefusedImp k a) LongImp one two = absurd (imp_long_or_short (refused_imp_short k a one).1 two.1)
   refusals_same (RefusedImp k a) (RefusedSpec l b) one two = absurd (spec_or_imp l k b a two one)
   refusals_same (RefusedImp k a) (RefusedImp l b) one two = imps_same k l a b one two
+  refusals_same _ Unreadable one two = absurd two
 
   pub one_answer : HaveOneAnswer spec imp
   one_answer = record {

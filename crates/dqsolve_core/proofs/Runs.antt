@@ -12,14 +12,14 @@ use Rattle.dq_runs.specs.FormulaFiles.{IsFormulaOf, IsNoFormula}
 use Rattle.dq_runs.specs.Printed.{Printed, printed}
 use Rattle.dq_runs.specs.Sinks.{SinkState}
 use Rattle.dq_runs.specs.declared.formulas.NoFormula.{NoFormula}
-use Rattle.dq_runs.specs.declared.formulas.NoFormula.TheVariants.{Unreadable, TooLong, Refused}
+use Rattle.dq_runs.specs.declared.formulas.NoFormula.TheVariants.{Unreadable, TooLong}
 use Rattle.dq_runs.specs.declared.outputs.Output.{Output}
 use Rattle.dq_verdicts.specs.Outputs.{IsVerdictOutput}
 use Rattle.dq_verdicts.specs.Prepared.{IsPreparedOutput, IsPreparedLog}
 use Rattle.verdict_texts.specs.Verdicts.{printed_verdict}
 use Rattle.verdict_texts.specs.declared.forms.Form.{Form}
 use Rattle.dq_verdicts.specs.declared.demonstrations.Demonstration.{Demonstration}
-use Rattle.dq_verdicts.specs.declared.demonstrations.Demonstration.TheVariants.{Valid, Large, CutOff}
+use Rattle.dq_verdicts.specs.declared.demonstrations.Demonstration.TheVariants.{Valid, CutOff}
 use Rattle.dqsolve_words.specs.Command.{Options, Search, Planting, Command, solve, demo, pec, encode, defined, session, default_steps}
 use Rattle.dqsolve_words.specs.Words.{search_of, planting_of, comparison_of, session_of, command_said}
 use Rattle.dqsolve_words.specs.declared.requests.SolveWords.{SolveWords}
@@ -101,8 +101,7 @@ said_reported before now log c said (Err _) is once unfaulted same = tt
 -- a planted formula's line
 demo_not_long : (shown : Demonstration) → demonstration_status shown ≡ 6 → ⊥
 demo_not_long Valid same = omega (arith, same)
-demo_not_long Large same = omega (arith, same)
-demo_not_long CutOff same = omega (arith, same)
+demo_not_long _ same = omega (arith, same)
 
 -- the usage line
 pub usage_reported : (files : FilesState) (log : ProofLog) (asked : Option Command) (r : Result Output Memory)
@@ -207,13 +206,7 @@ demo_reasons before now c Valid = record {
       λ h. absurd (omega (arith, h));
   delivered = λ h. omega (arith, h);
 }
-demo_reasons before now c Large = record {
-  words = λ h. absurd (omega (arith, h));
-  source =
-      λ h. absurd (omega (arith, h));
-  delivered = λ h. omega (arith, h);
-}
-demo_reasons before now c CutOff = record {
+demo_reasons before now c _ = record {
   words = λ h. absurd (omega (arith, h));
   source =
       λ h. absurd (omega (arith, h));
@@ -225,20 +218,13 @@ search_reasons : (before now : FilesState) (log : ProofLog) (c : Search) (report
     → Reasons before now (Some (solve c)) ((printed_search c report).status)
 search_reasons before now log c (no_formula Unreadable) due =
     record { words = λ h. absurd (omega (arith, h)); source = λ _. due.0.counted; delivered = λ h. omega (arith, h) }
-search_reasons before now log c (no_formula TooLong) due = record {
+search_reasons before now log c (solved f verdict) due = verdict_reasons before now (solve c) verdict
+search_reasons before now log c (no_formula _) due = record {
   words = λ h. absurd (omega (arith, h));
   source = λ h. absurd (omega (arith, h));
   delivered =
       λ h. omega (arith, h);
 }
-search_reasons before now log c (no_formula (Refused l name)) due =
-    record {
-      words = λ h. absurd (omega (arith, h));
-      source = λ h. absurd (omega (arith, h));
-      delivered =
-          λ h. omega (arith, h);
-    }
-search_reasons before now log c (solved f verdict) due = verdict_reasons before now (solve c) verdict
 
 reasons : (before now : FilesState) (asked : Option Command) (log : ProofLog) (p : Printed) →
     IsDue before now log asked p → Reasons before now asked p.status
@@ -300,18 +286,16 @@ causes before now asked log sink sink_now (Err _) status held o unwritten =
 
 demo_steps : (p : Planting) (log : ProofLog) (clauses : ℕ) (shown : Demonstration) →
     IsDemonstration p log clauses shown → demonstration_status shown ≡ 0 → steps_of log.entries ≡ log.limit
-demo_steps p log clauses Valid d zero = absurd (omega (arith, zero))
-demo_steps p log clauses Large d zero = absurd (omega (arith, zero))
 demo_steps p log clauses CutOff d zero = d.is.limit
+demo_steps p log clauses _ d zero = absurd (omega (arith, zero))
 
 search_steps : (before now : FilesState) (log : ProofLog) (c : Search) (report : SearchReport) →
     IsDueFor before now log c report → (printed_search c report).status ≡ 0
     → steps_of log.entries ≡ log.limit
-search_steps before now log c (no_formula Unreadable) due zero = absurd (omega (arith, zero))
 search_steps before now log c (no_formula TooLong) due zero = absurd (omega (arith, zero))
-search_steps before now log c (no_formula (Refused l name)) due zero = absurd (omega (arith, zero))
 search_steps before now log c (solved f verdict) due zero = verdict_steps f due.2.searched log (form_of c.options)
     verdict due.2.is zero
+search_steps before now log c (no_formula _) due zero = absurd (omega (arith, zero))
 
 all_steps : (before now : FilesState) (c : Command) (log : ProofLog) (p : Printed) → SeeksVerdict c →
     IsDue before now log (Some c) p → p.status ≡ 0 → steps_of log.entries ≡ log.limit
@@ -321,9 +305,8 @@ all_steps before now (demo d) log p seeks (due, picks) zero = demo_steps d log d
     (sym (ap (λ (q : Printed). q.status) due.is_printed) ∙ zero)
 all_steps before now (pec c) log p seeks (report, due, same) zero =
     comparison_steps before now log c report due (sym (ap (λ (q : Printed). q.status) same) ∙ zero)
-all_steps before now (encode c) log p seeks due zero = absurd seeks
 all_steps before now (defined c) log p seeks due zero = defined_steps before now log c p due.1 zero
-all_steps before now (session c) log p seeks due zero = absurd seeks
+all_steps before now _ log p seeks due zero = absurd seeks
 
 pub own_log : (before now : FilesState) (asked : Option Command) (log : ProofLog) (sink sink_now : SinkState)
     (r : Result Output Memory) (status : ℕ)

@@ -52,27 +52,17 @@ said_reasons before now c (NoFormula Unreadable) is = record {
   source = λ _. is.0.counted;
   delivered = λ h. omega (arith, h);
 }
-said_reasons before now c (NoFormula TooLong) is = record {
-  words = λ h. absurd (omega (arith, h));
-  source = λ h. absurd (omega (arith, h));
-  delivered = λ h. omega (arith, h);
-}
-said_reasons before now c (NoFormula (Refused line name)) is = record {
-  words = λ h. absurd (omega (arith, h));
-  source = λ h. absurd (omega (arith, h));
-  delivered = λ h. omega (arith, h);
-}
 said_reasons before now c UnreadableScript is = record {
   words = λ h. absurd (omega (arith, h));
   source = λ _. is.1.counted;
   delivered = λ h. omega (arith, h);
 }
-said_reasons before now c LongScript is = record {
+said_reasons before now c (NoFormula _) is = record {
   words = λ h. absurd (omega (arith, h));
   source = λ h. absurd (omega (arith, h));
   delivered = λ h. omega (arith, h);
 }
-said_reasons before now c (RefusedScript line name) is = record {
+said_reasons before now c _ is = record {
   words = λ h. absurd (omega (arith, h));
   source = λ h. absurd (omega (arith, h));
   delivered = λ h. omega (arith, h);
@@ -96,9 +86,7 @@ some_status : (said : NoSession) → (session_line said).status ≡ 0 → ⊥
 some_status (NoFormula Unreadable) zero = omega (arith, zero)
 some_status (NoFormula TooLong) zero = omega (arith, zero)
 some_status (NoFormula (Refused line name)) zero = omega (arith, zero)
-some_status UnreadableScript zero = omega (arith, zero)
-some_status LongScript zero = omega (arith, zero)
-some_status (RefusedScript line name) zero = omega (arith, zero)
+some_status _ zero = omega (arith, zero)
 
 ok-is : {E : Type 0} (a b : List ScriptCommand) → ◌≡◌ {A = Result (List ScriptCommand) E} (Ok a) (Ok b) → a ≡ b
 ok-is a b e = cc

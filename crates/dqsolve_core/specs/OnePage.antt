@@ -4,9 +4,9 @@ use Rattle.std.specs.Io.KnownBytes.{append_known}
 use Rattle.headline.specs.Headline.{Formula, HoldsSkolem, IsFalseFormula, IsTrueFormula, SpellsFormula}
 use Rattle.headline.specs.Sessions.{AnswersSession}
 
--- The text spells a formula. With 10 it is true, and what was written behind the sink's bytes, where
--- it has at most 10^9 of them, is a circuit's whose outputs are its Skolem functions. With 20 it is
--- false.
+-- The text spells a formula. With 10 it is true, and what was written behind the sink's bytes,
+-- where it has at most 10^9 of them, is a circuit's whose outputs are its Skolem functions. With 20
+-- it is false.
 pub record ShowsHeadline (formula : List ℕ) (before now : Option (List ℕ))
     (status : ℕ) : Type 0 where
   pub f : Formula

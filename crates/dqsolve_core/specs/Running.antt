@@ -90,8 +90,8 @@ steps_asked (encode c) = 0
 steps_asked (defined c) = c.steps
 steps_asked (session c) = c.steps
 
--- the log's work was for the formula that was asked for, or for what is left of it where preparation
--- was, and all of it productive
+-- the log's work was for the formula that was asked for, or for what is left of it where
+-- preparation was, and all of it productive
 pub record IsWorkOn (files : FilesState) (asked : Option Command) (log : ProofLog) : Type 0 where
   pub command : Command
   pub is : asked ≡ Some command

@@ -121,8 +121,8 @@ AnswersFor (Some (encode c)) d log before now status = IsEncoded d before now st
 AnswersFor (Some (defined c)) d log before now status = ⊥
 AnswersFor (Some (session c)) d log before now status = ⊥
 
--- Over circuits that are told, where no failure has the status, what is written is the first refusal
--- of the texts, or the command's answer for their design.
+-- Over circuits that are told, where no failure has the status, what is written is the first
+-- refusal of the texts, or the command's answer for their design.
 pub record ComparesTold (files : FilesState) (asked : Option Command) (log : ProofLog)
     (sink sink_now : SinkState) (status : ℕ) : Type 0 where
   pub answered : (c : Circuits) (spec imp : List ℕ) → NamesCircuits asked c

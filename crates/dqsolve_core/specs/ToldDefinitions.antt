@@ -36,8 +36,8 @@ pub record AreDefinedOf (formula : List ℕ) (log : ProofLog) (c : Defining)
   pub well_formed : IsWellFormed f
   pub are : AreDefined f log c before now status
 
--- Over a file that is told, what is written with status 30 or 0 was found for its formula, and where
--- nothing failed, something was.
+-- Over a file that is told, what is written with status 30 or 0 was found for its formula, and
+-- where nothing failed, something was.
 pub record DefinesTold (files now : FilesState) (asked : Option Command) (log : ProofLog)
     (sink sink_now : SinkState) (status : ℕ) : Type 0 where
   pub right : (formula : List ℕ) (told : IsDefiningTold files.held asked formula)

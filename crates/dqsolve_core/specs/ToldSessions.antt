@@ -44,8 +44,8 @@ pub record AreAnsweredOf (formula script : List ℕ) (log : ProofLog) (c : Sessi
   pub reading : read_script f script ≡ Ok commands
   pub are : AreAnswered f commands log c before now status
 
--- Over files that are told, what is written with status 0 are a script's searches, and where nothing
--- failed and both texts are spelled, they were made.
+-- Over files that are told, what is written with status 0 are a script's searches, and where
+-- nothing failed and both texts are spelled, they were made.
 pub record ConversesTold (files now : FilesState) (asked : Option Command) (log : ProofLog)
     (sink sink_now : SinkState) (status : ℕ) : Type 0 where
   pub right : (formula script : List ℕ) (told : IsSessionTold files.held asked formula script)
