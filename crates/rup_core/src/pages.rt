@@ -2,8 +2,8 @@
 //!
 //! A page has 256 ids: with fewer more is paid where no line stays, with more where a few lines
 //! stay in many pages. It packs its literals into new memory once those that are gone are more than
-//! the live ones and as many as the page's ids, so that no clause moves in place and a refusal
-//! leaves the page as it is.
+//! the live ones, as many as the page's ids, and as many as the caller says, so that no clause moves
+//! in place and a refusal leaves the page as it is.
 
 ghost use Rattle.std.specs.Prelude.{◌≡◌, ◌<◌, ◌++◌, ◌^◌, ℕ, [], length, slice_set, Some, None, IfOk, OnOk, OnErr, MatchOption, IsSome};
 ghost use Rattle.rup_core.specs.Paging.{clause_at, AreSameClauses, Sets};
@@ -143,13 +143,21 @@ impl Page {
     }
 
     /// Takes the clause at a place away, and lays the others anew where that is paid by those that
-    /// are gone.
-    pub(crate) fn remove(&mut self, place: usize)
+    /// are gone, which are at least `spare` literals then.
+    pub(crate) fn remove(&mut self, place: usize, spare: usize)
         requires { IsSome (clause_at self.old place) }
         ensures { Sets (clause_at self.old) (clause_at self.new) place None }
     {
         self.forget(place);
-        if self.is_worn() {
+        self.settle(spare);
+    }
+
+    /// Lays the clauses anew where that is paid by at least `spare` literals that are gone.
+    #[inline(always)]
+    pub(crate) fn settle(&mut self, spare: usize)
+        ensures { AreSameClauses (clause_at self.old) (clause_at self.new) }
+    {
+        if self.is_worn(spare) {
             self.pack();
         }
     }
@@ -174,9 +182,10 @@ impl Page {
         self.live -= 1;
     }
 
-    // Whether a pass over the clauses is paid by those that are gone since the last one.
-    fn is_worn(&self) -> bool {
-        self.dead > self.literals.len() / 2 && self.dead >= self.spans.len()
+    // Whether a pass over the clauses is paid by those that are gone since the last one, which have
+    // at least `spare` literals.
+    fn is_worn(&self, spare: usize) -> bool {
+        self.dead > self.literals.len() / 2 && self.dead >= self.spans.len() && self.dead >= spare
     }
 
     // Lays the clauses end to end anew. Where that takes more memory than there is, they stay. Where

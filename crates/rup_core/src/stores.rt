@@ -16,14 +16,19 @@ use std::marker::Model;
 /// How many ids there are to a page.
 pub(crate) const PAGE: usize = 256;
 
+// The last page is laid anew only where so many literals are gone. Where each line goes as soon as
+// the next one is there, it would else be laid anew every few lines.
+const LAST_PAGE_SPARE: usize = 1024;
+
 /// Lines that are held, by their ids.
 ///
 /// Ids lie in pages, and a page keeps the literals of its clauses end to end. It lays them anew
 /// where more than half of its literals belong to clauses that are gone, and these are as many as
-/// its ids, so that the work is paid by what is gone. With its last clause it gives all its memory
-/// back, unless lines are still to come there, for which it keeps it. So memory follows the literals
-/// of the clauses that there are, three words for each id of their pages, one of them for literals
-/// that are gone, and two bits for each id of the other pages. A list that has just grown takes up
+/// its ids, so that the work is paid by what is gone; the last page, where lines are still to come,
+/// waits until they are 1024. With its last clause a page gives all its memory back, unless lines
+/// are still to come there, for which it keeps it. So memory follows the literals of the clauses
+/// that there are, three words for each id of their pages, one of them for literals that are gone,
+/// two bits for each id of the other pages, and 1024 literals. A list that has just grown takes up
 /// to twice its part.
 #[derive(Drop)]
 pub struct Store {
@@ -77,7 +82,7 @@ fn reach_page(pages: &mut Vec<Page>, page: usize) -> Result<(), Memory>
         return Ok(());
     }
     if count > 0 {
-        give_back(pages, count - 1);
+        leave(pages, count - 1);
     }
     add_pages(pages, page - count + 1)
 }
@@ -95,6 +100,17 @@ fn add_pages(pages: &mut Vec<Page>, missing: usize) -> Result<(), Memory>
         pages.push(Page::new(alloc))?;
     }
     Ok(())
+}
+
+// Takes less memory for a page where no line is to come any more.
+#[inline(never)]
+fn leave(pages: &mut Vec<Page>, page: usize)
+    requires { page < length pages.old.items }
+    ensures same { AreSameClauses (clause_among pages.old.items) (clause_among pages.new.items) }
+    ensures as_many { length pages.new.items ≡ length pages.old.items }
+{
+    pages[page].settle(0);
+    give_back(pages, page);
 }
 
 // Gives a page's memory back where its clauses are all gone.
@@ -149,18 +165,20 @@ fn remove_at(pages: &mut Vec<Page>, place: usize)
     ensures as_many { length pages.new.items ≡ length pages.old.items }
 {
     let page = place / PAGE;
-    forget_at(pages, place);
     if page + 1 < pages.len() {
+        forget_at(pages, place, 0);
         give_back(pages, page);
+    } else {
+        forget_at(pages, place, LAST_PAGE_SPARE);
     }
 }
 
-fn forget_at(pages: &mut Vec<Page>, place: usize)
+fn forget_at(pages: &mut Vec<Page>, place: usize, spare: usize)
     requires { IsSome (clause_among pages.old.items place) }
     ensures sets { Sets (clause_among pages.old.items) (clause_among pages.new.items) place None }
     ensures as_many { length pages.new.items ≡ length pages.old.items }
 {
-    pages[place / PAGE].remove(place % PAGE);
+    pages[place / PAGE].remove(place % PAGE, spare);
 }
 
 impl Store {
