@@ -4,7 +4,8 @@
 //! Each gate is given once, and propagation passes it wherever its group is active. Of all gates that
 //! candidates had, few are in the present one: so each turn's new gates get a group of their own, and
 //! a search has the groups in which gates of the outputs are. Where one group is for all gates,
-//! searches with many rounds take a third more time, up to twice as much.
+//! searches with many rounds take a third more time, up to twice as much. While few gates are dead it
+//! has all groups: more is learned that later searches have, too, and long chains of boxes need it.
 
 ghost use Rattle.std.specs.Prelude.{◌≡◌, true, IfOk};
 ghost use Rattle.circuit_cnf.specs.Turning.{AreActive};
@@ -44,18 +45,27 @@ impl Checker {
     }
 }
 
-// Marks the earlier groups that have gates among these.
+// Marks the earlier groups that have gates among these; all, where at most a third of the gates
+// isn't among them.
 pub(crate) fn mark_live(
     live: &mut Vec<bool>,
     gates: &Gates,
     literals: &[Lit],
 ) -> Result<(), Memory> {
     live.clear();
-    live.resize(gates.earlier.len(), false)?;
+    live.resize(gates.earlier.len(), are_mostly_live(gates, literals))?;
     for l in literals {
         mark_group(live, gates, l.var());
     }
     Ok(())
+}
+
+// Whether at most a third of all gates isn't among these. What is no gate's literal is the present
+// group's selector there.
+fn are_mostly_live(gates: &Gates, literals: &[Lit]) -> bool {
+    let none = gates.group.selector.var();
+    let count = literals.iter().filter(|l| l.var() != none).count();
+    gates.variables.len() <= count.saturating_add(count / 2)
 }
 
 // Marks the group of a gate, if it is an earlier one: the last that was made before the gate was
