@@ -1,5 +1,5 @@
 //! Rows that are tried before any question: one at which a formula is false by a clause without
-//! existential literals, or the only row of a formula without universals.
+//! existential literals, or any row where no clause has a universal.
 //!
 //! Candidates are evaluated at such a row first, so that it takes the way of every failing row.
 
@@ -9,12 +9,12 @@ use dq_formula::Formula;
 use dq_lits::{Lit, Memory, Row};
 use std::alloc::Global;
 
-// The only row, where there are no universals: a model of the clauses there decides the formula, so
-// that questions for definitions would tell nothing. Else a row at which some clause of universals
-// alone is false.
+// Any row, where no clause has a universal: a model of the clauses there decides the formula, so that
+// questions for definitions would tell nothing. Else a row at which some clause of universals alone is
+// false.
 pub(crate) fn find_first_row(alloc: Global, f: &Formula) -> Result<Option<Row>, Memory> {
-    if f.universals().is_empty() {
-        let row = Row::new(alloc, 0)?;
+    if (0..f.clauses()).all(|j| has_existentials_alone(f, f.clause(j))) {
+        let row = Row::new(alloc, f.universals().len())?;
         return Ok(Some(row));
     }
     find_false_row(alloc, f)
@@ -36,6 +36,10 @@ pub(crate) fn find_false_row(alloc: Global, f: &Formula) -> Result<Option<Row>, 
         }
     }
     Ok(None)
+}
+
+fn has_existentials_alone(f: &Formula, clause: &[Lit]) -> bool {
+    !clause.iter().any(|l| f.is_universal(l.var()))
 }
 
 fn has_universals_alone(f: &Formula, clause: &[Lit]) -> bool {

@@ -18,16 +18,8 @@ use hint_log::Log;
 use oracle::Oracle;
 use std::alloc::Global;
 
-// From so many clauses on a formula is large.
-const LARGE: usize = 1 << 16;
-
-/// Whether a formula has so many clauses that copies of them are given only where a question is left.
-pub(crate) fn is_large(f: &Formula) -> bool {
-    f.clauses() >= LARGE
-}
-
-/// Copies of all clauses; of a large formula those of existentials alone, and what its clauses need
-/// is given with their copies.
+/// Copies of the existentials alone: what clauses need is given with their copies, where a question
+/// is left.
 pub(crate) fn first_copies<O: Oracle>(
     alloc: Global,
     oracle: &mut O,
@@ -48,9 +40,6 @@ pub(crate) fn first_copies<O: Oracle>(
         IsCopyStore f.now (replicate (length f.now.matrix) 0) p log.new.entries) }
 {
     added_clauses_leave_stores();
-    if !is_large(f) {
-        return Definability::new(alloc, oracle, f, log);
-    }
     let prefix = copy_prefix(alloc, f)?;
     Definability::new(alloc, oracle, &prefix, log)
 }

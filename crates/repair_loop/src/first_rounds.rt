@@ -1,10 +1,11 @@
-//! A round before any question: the candidates are constants, and where they hold there is nothing
-//! to ask.
+//! A round before any question: where candidates that are at hand hold there is nothing to ask.
 //!
-//! Two copies were half of what a clause costs, so a large formula has this round first. Where most
-//! clauses are gates and some existential has none it is left out: constants fail there at once. A
-//! smaller formula goes without it, as a row that constants fail at is a worse row than one found
-//! beside definitions.
+//! The gates that the clauses state make their own clauses true. Where constants of the other
+//! existentials make all further clauses true (B. Monien, E. Speckenmeyer, "Solving satisfiability in
+//! less than 2^n steps", 1985, call these an autarky), or there are no others, these are the
+//! candidates. A large formula has a round from constants otherwise, as two copies were half of what
+//! a clause costs: unless most clauses are gates, where constants fail at once. A smaller one goes
+//! without it, as a row that constants fail at is a worse row than one found beside definitions.
 
 ghost use Rattle.std.specs.Prelude.{◌≡◌, ℕ, IfOk, IfSome, None, Some, Ok, Err};
 ghost use Rattle.aig_graph.specs.Made.{Extends};
@@ -27,8 +28,16 @@ use hint_log::{Log, Stop};
 use known_functions::Definitions;
 use oracle::Oracle;
 
-// A gate has some three clauses: where gates have more than half of all, most clauses are theirs.
-const GATE_CLAUSES: usize = 6;
+// From so many clauses on a formula is large.
+const LARGE: usize = 1 << 16;
+
+// What the first round has for candidates.
+#[derive(Clone, Copy)]
+enum FirstCandidates {
+    Gates,
+    Constants,
+    Nothing,
+}
 
 impl<'f, 'p> Search<'f, 'p> {
     /// A round from constants, and a look at its row's instances: a verdict, if it comes to one.
@@ -130,10 +139,7 @@ impl<'f, 'p> Search<'f, 'p> {
         }
     }
 
-    // What is tried before any question, if something is worth it: constants that make all clauses true
-    // at the row that is tried first; else the gates that the clauses state, where each existential has
-    // one; else the constants again, unless most clauses are gates, whose instances would cost more
-    // than they tell.
+    // What is tried before any question, if something is worth it.
     fn first_known(&self, graph: &mut Graph) -> Result<Option<Known>, Memory>
         requires { HasInputs self.now.f.now graph.old }
         ensures extends { Extends graph.old graph.new }
@@ -141,19 +147,42 @@ impl<'f, 'p> Search<'f, 'p> {
             (λ found. IfSome found (λ k. AreKnownIn self.now.f.now graph.new k.definitions)) }
     {
         let signs = Signs::of(self.alloc, self.f)?;
-        if signs.agree(self.f) {
-            return self.known_constants(&signs);
+        let gates = self.known_gates(graph, &signs)?;
+        match self.first_candidates(&signs, &gates.definitions) {
+            FirstCandidates::Gates => Ok(Some(gates)),
+            FirstCandidates::Constants => {
+                drop(gates);
+                self.known_constants(&signs)
+            }
+            FirstCandidates::Nothing => Ok(None),
         }
-        let gates = Definitions::stated(self.alloc, graph, self.f)?;
-        let stated = gates.nodes.iter().filter(|node| node.is_some()).count();
-        if stated == gates.nodes.len() {
-            return Ok(Some(self.known(gates)));
+    }
+
+    // Which candidates are worth a round: no contract speaks of it.
+    fn first_candidates(&self, signs: &Signs, gates: &Definitions) -> FirstCandidates {
+        let f = self.f;
+        let suspects = gates.suspects();
+        if gates.nodes.iter().all(|node| node.is_some())
+            || signs.settle(f, &gates.nodes, suspects)
+        {
+            return FirstCandidates::Gates;
         }
-        drop(gates);
-        if stated.saturating_mul(GATE_CLAUSES) > self.f.clauses() {
-            return Ok(None);
+        if f.clauses() >= LARGE && (signs.agree(f) || suspects.len() >= f.clauses() / 2) {
+            return FirstCandidates::Constants;
         }
-        self.known_constants(&signs)
+        FirstCandidates::Nothing
+    }
+
+    // The gates that the clauses state, and a constant for each other existential.
+    fn known_gates(&self, graph: &mut Graph, signs: &Signs) -> Result<Known, Memory>
+        requires { HasInputs self.now.f.now graph.old }
+        ensures extends { Extends graph.old graph.new }
+        ensures known { IfOk result (λ k. AreKnownIn self.now.f.now graph.new k.definitions) }
+    {
+        let constants = signs.constants(self.alloc)?;
+        let mut gates = Definitions::stated(self.alloc, graph, self.f)?;
+        gates.guesses = constants;
+        Ok(self.known(gates))
     }
 
     // A row at which clauses are likely to be false, and a constant for each existential.

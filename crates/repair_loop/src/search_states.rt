@@ -18,7 +18,7 @@ ghost use Rattle.repair_loop.specs.Turning.{AreFaultsNew, HasEnded, IsSearch, Is
 ghost use Rattle.repair_loop.specs.Preservation.{IsLeft};
 
 use crate::decisions::Verdict;
-use crate::first_copies::{first_copies, is_large};
+use crate::first_copies::first_copies;
 use crate::preservation::search_states_are_grouped;
 use crate::searches::Search;
 use aig_graph::Graph;
@@ -145,7 +145,7 @@ impl SearchState {
         self.log_beginning(database, log)
     }
 
-    // Searches. A large formula has a round before its copies are completed.
+    // Searches: a round comes before the copies are completed.
     fn search<O: Oracle>(
         &mut self,
         oracle: &mut O,
@@ -177,8 +177,8 @@ impl SearchState {
         }
     }
 
-    // A round without questions, where a large formula has no rows yet: its copies would take more
-    // memory than all else, and often it needs none.
+    // A round without questions, where there are no rows yet: copies would take more memory than all
+    // else, and often none are needed.
     fn look_first<O: Oracle>(
         &mut self,
         oracle: &mut O,
@@ -205,7 +205,7 @@ impl SearchState {
             self.new.definability false log.new.entries }
         ensures stopped { IsStoppedAs f.now database.new log.new result }
     {
-        if !is_large(f) || database.table().rows() > 0 {
+        if database.table().rows() > 0 {
             return Ok(None);
         }
         let search = Search {

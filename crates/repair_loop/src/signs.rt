@@ -71,6 +71,28 @@ impl Signs {
         (0..f.clauses()).all(|number| self.have_true(f, f.clause(number)))
     }
 
+    /// Whether constants of existentials without a definition make each clause of these numbers true.
+    pub(crate) fn settle(&self, f: &Formula, nodes: &[Option<Node>], numbers: &[usize]) -> bool {
+        numbers
+            .iter()
+            .all(|number| self.settle_numbered(f, nodes, *number))
+    }
+
+    fn settle_numbered(&self, f: &Formula, nodes: &[Option<Node>], number: usize) -> bool {
+        number < f.clauses() && self.settle_clause(f, nodes, f.clause(number))
+    }
+
+    fn settle_clause(&self, f: &Formula, nodes: &[Option<Node>], clause: &[Lit]) -> bool {
+        clause.iter().any(|l| self.settle_literal(f, nodes, *l))
+    }
+
+    fn settle_literal(&self, f: &Formula, nodes: &[Option<Node>], l: Lit) -> bool {
+        match f.existential_place(l.var()) {
+            Some(place) => is_undefined(nodes, place) && self.bit(f, l.var()) != l.is_neg(),
+            None => false,
+        }
+    }
+
     fn have_true(&self, f: &Formula, clause: &[Lit]) -> bool {
         clause.iter().any(|l| self.bit(f, l.var()) != l.is_neg())
     }
@@ -96,6 +118,10 @@ impl Signs {
         }
         Ok(nodes)
     }
+}
+
+fn is_undefined(nodes: &[Option<Node>], place: usize) -> bool {
+    place < nodes.len() && nodes[place].is_none()
 }
 
 fn is_mostly_positive(counts: &[SignCounts], place: usize) -> bool {

@@ -4,8 +4,8 @@ use Rattle.repair_loop.proofs.PrefixCopies.{added_there, prefix_formed, store_th
 use Rattle.list_laws.proofs.Results.{if_ok}
 use Rattle.repair_loop.proofs.first_copies.first_copies.Goals as goal
 
-pub new-requires-2-clause-formula : goal.new-requires-2-clause-formula
-new-requires-2-clause-formula g c = search (arith, (prefix_formed c.args.f.now c.requires.formula))
+pub new-requires-clause-formula : goal.new-requires-clause-formula
+new-requires-clause-formula g c = search (arith, (prefix_formed c.args.f.now c.requires.formula))
 
 pub returns-clause-grew : goal.returns-clause-grew
 returns-clause-grew g c group = search (arith, added_there)
@@ -13,6 +13,6 @@ returns-clause-grew g c group = search (arith, added_there)
 pub returns-clause-store : goal.returns-clause-store
 returns-clause-store g c =
     let f = c.args.f.now in
-    let es = c.new-2.new.log.entries in
-    if_ok c.new-2.result (λ p store. store_there f c.added_clauses_leave_stores.ensures p es
-    (subst (λ h. IsCopyStore h (replicate (length h.matrix) 0) p es) c.in_ok-prefix.ensures store)) c.new-2.ensures.store
+    let es = c.new.new.log.entries in
+    if_ok c.new.result (λ p store. store_there f c.added_clauses_leave_stores.ensures p es
+    (subst (λ h. IsCopyStore h (replicate (length h.matrix) 0) p es) c.in_ok-prefix.ensures store)) c.new.ensures.store
