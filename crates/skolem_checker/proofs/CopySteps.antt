@@ -8,8 +8,30 @@ use Rattle.circuit_plain.proofs.NetlistLaws.{gate_at_member}
 use Rattle.circuit_plain.proofs.NetlistParts.{half}
 use Rattle.skolem_checker.specs.Renaming.{renamed_literal, known_variables, number_in, dense_number, renumbered_first}
 use Rattle.skolem_checker.specs.SkolemCircuit.{IsComplete}
-use Rattle.skolem_checker.proofs.LeastNumbers.{not_before, known_length, gate_among, known_once, literal_fits, input_is_variable, input_is_new, input_copied, gate_is_variable, gate_is_new}
+use Rattle.skolem_checker.proofs.LeastNumbers.{not_before, known_length, input_among, gate_among, known_once, literal_fits, input_is_variable, input_is_new, input_copied, gate_is_variable, gate_is_new}
 use Rattle.skolem_checker.proofs.RenamedNetlists.{renamed_variable, known_input, known_gate, grounded_known, sides_grounded}
+
+-- the next input to be known
+module _ (net : Netlist) (kept : IsNetlist net) (keys items : List ℕ) (items_are : items ≡ net.inputs) (i : ℕ)
+    (below : i < length items) (learnt : keys ≡ take (i + 1) (known_variables net)) where
+  within : i < length net.inputs
+  within = omega (arith, below, ap length items_are)
+
+  input_is : get_or (known_variables net) (i + 1) 0 ≡ slice_index items i
+  input_is = input_among net i 0 within ∙ ap (λ xs. slice_index xs i) (sym items_are)
+
+  pub input_unlearnt : Contains keys (slice_index items i) → ⊥
+  input_unlearnt among =
+      not_before (known_variables net) (i + 1) 0 (known_once net kept) (omega (arith, known_length net, within))
+      (subst (Contains (take (i + 1) (known_variables net))) (sym input_is)
+      (subst (λ ks. Contains ks (slice_index items i)) learnt among))
+
+  pub input_learnt : (new : List ℕ) → new ≡ keys ++ slice_index items i ∷ [] →
+      new ≡ take (i + 1 + 1) (known_variables net)
+  input_learnt new added =
+      added ∙ ap (λ ks. ks ++ slice_index items i ∷ []) learnt
+      ∙ ap (λ v. take (i + 1) (known_variables net) ++ v ∷ []) (sym input_is)
+      ∙ sym (take_more (known_variables net) (i + 1) 0 (omega (arith, known_length net, within)))
 
 -- the next gate to be known
 module _ (net : Netlist) (kept : IsNetlist net) (keys : List ℕ) (j : ℕ) (below : j < length net.gates)

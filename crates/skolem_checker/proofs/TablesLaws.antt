@@ -1,34 +1,60 @@
 -- What the tables say of the circuit.
-use Rattle.std.proofs.Common.{◌≡◌, ℕ, ◌+◌, ◌*◌, ◌%◌, ◌<◌, ◌≤◌, ◌==◌, eqb, Bool, true, false, not, List, [], length, get_or, inl, inr, sym, ap, ◌∙◌, arith, true≢false}
+use Rattle.std.proofs.Common.{◌≡◌, ℕ, ◌+◌, ◌*◌, ◌^◌, ◌%◌, ◌<◌, ◌≤◌, ◌==◌, eqb, Bool, true, false, not, List, [], ◌∷◌, ◌++◌, length, map, take, get_or, inl, inr, sym, ap, ◌∙◌, subst, arith, true≢false}
 use Rattle.std.specs.Prelude.{slice_index}
 use Rattle.std.specs.Int.{bit_at}
 use Rattle.std.specs.List.{All, Contains, IsDistinct, list_all}
 use Rattle.std.proofs.lemmas.Bool.{cases_Bool}
 use Rattle.std.proofs.lemmas.Bool.Decides.{Decides-eqb}
-use Rattle.std.proofs.lemmas.List.{get_or_default, get_or-map, length-map}
+use Rattle.std.proofs.lemmas.List.{get_or_default, get_or-map, get_or_append_left, get_or_push, length-map, length_push, map_more}
 use Rattle.std.proofs.lemmas.List.Elements.{All-contains, Contains-get_or, Contains-append_cases}
 use Rattle.std.proofs.lemmas.List.Folds.{list_all_at}
 use Rattle.std.proofs.lemmas.Map.Made.{IsDistinct-from_AllPairs}
+use Rattle.list_laws.proofs.Numbers.{below_or_here}
 use Rattle.list_laws.proofs.Quantified.{left-distinct}
 use Rattle.dq_lits.specs.Literal.{Assignment, Literal, positive, negative, variable_of, literal_true, clause_true}
 use Rattle.dq_lits.specs.Formula.{Existential, Dqbf, declared, IsWellFormed}
 use Rattle.dq_formula.specs.Prefix.{existential_variables}
 use Rattle.dq_formula.proofs.Places.{has, place, place-get_or, has-contains}
 use Rattle.dq_formula.proofs.Sorted.{get_or-place, place-below, list_any-agree}
-use Rattle.circuit_plain.specs.Netlist.{Netlist, IsNetlist, literal_variable, signed_bit, literal_bit}
+use Rattle.circuit_plain.specs.Netlist.{Netlist, IsNetlist, IsVariable, literal_variable, signed_bit, literal_bit}
 use Rattle.circuit_plain.specs.Value.{HasValue, IsValuation}
 use Rattle.circuit_plain.proofs.ValueLaws.{grounded_have_values, valuations_agree, values_follow_reach}
 use Rattle.circuit_plain.proofs.NetlistParts.{half}
 use Rattle.skolem_checker.specs.Mapping.{Mapping}
 use Rattle.skolem_checker.specs.SkolemCircuit.{MappedCircuit, IsComplete, input_bits, HasOutputValue, ReadsUniversal, FollowsCircuit}
 use Rattle.skolem_checker.specs.Checks.{IsRow, RowHolds, RowFails}
-use Rattle.skolem_checker.specs.Tables.{AreTables, HasLiteral, ReadsByTables, circuit_assignment, AreRowBits, universal_places}
+use Rattle.skolem_checker.specs.Tables.{AreNumbers, AreTables, HasLiteral, ReadsByTables, circuit_assignment, AreRowBits, universal_places}
 
 rest-even : (w : ℕ) → 2 * w % 2 ≡ 0
 rest-even w = omega arith
 
 even-bit : (values : ℕ → Bool) (l w : ℕ) → l ≡ 2 * w → literal_bit values l ≡ values w
 even-bit values l w e = search (arith, rest-even)
+
+-- the literals of the inputs, one by one
+module _ (net : Netlist) (items : List ℕ) (items_are : items ≡ net.inputs) (i : ℕ) (below : i < length items) where
+  pub doubled_input_fits : IsNetlist net → 2 * slice_index items i < 2 ^ 64
+  doubled_input_fits kept =
+      let fits : IsVariable net.max_var (slice_index items i) =
+      subst (All (IsVariable net.max_var)) (sym items_are) kept.inputs_fit i 0 below in
+      omega (arith, fits.1, kept.numbered)
+
+  pub input_doubled : (literals : List ℕ) → literals ≡ map (λ v. 2 * v) (take i net.inputs) →
+      literals ++ 2 * slice_index items i ∷ [] ≡ map (λ v. 2 * v) (take (i + 1) net.inputs)
+  input_doubled literals so_far =
+      ap (λ ls. ls ++ 2 * slice_index items i ∷ []) so_far
+      ∙ ap (λ xs. map (λ v. 2 * v) (take i net.inputs) ++ 2 * slice_index xs i ∷ []) items_are
+      ∙ sym (map_more (λ v. 2 * v) net.inputs i 0 (omega (arith, below, ap length items_are)))
+
+-- the next of the first numbers
+pub next_number : (numbers : List ℕ) (i : ℕ) → AreNumbers numbers i → AreNumbers (numbers ++ i ∷ []) (i + 1)
+next_number numbers i so_far = record {
+  same_length = omega (arith, length_push numbers i, so_far.same_length);
+  at = λ k below. elim (below_or_here k i below) [
+    | inl early ↦ get_or_append_left numbers (i ∷ []) 0 k (omega (arith, so_far.same_length)) ∙ so_far.at k early
+    | inr here ↦ get_or_push numbers i 0 k (omega (arith, so_far.same_length)) ∙ sym here
+  ];
+}
 
 pub list_all-each : {X : Type 0} (p : X → Bool) (xs : List X) → list_all p xs ≡ true → All (λ x. p x ≡ true) xs
 list_all-each p xs h k d below = search (arith, cases_Bool, true≢false, list_all_at)
