@@ -1,27 +1,23 @@
-//! Judging a circuit that was read: its mapping, its reads, and then its proof or its rows.
+//! Judging a circuit that was read and has no proof: its mapping, its reads, and then its rows.
 
-ghost use Rattle.std.specs.Prelude.{◌≡◌, ◌==◌, ◌<◌, ◌^◌, IfOk, IfSome};
+ghost use Rattle.std.specs.Prelude.{◌≡◌, ◌==◌, ◌<◌, ◌^◌, None, IfOk};
 ghost use Rattle.std.specs.List.{position};
 ghost use Rattle.dq_lits.specs.Formula.{IsWellFormed};
 ghost use Rattle.dq_text.specs.Line.{line_tokens};
-ghost use Rattle.cert_text.specs.ProofGrammar.{IsDqpOf};
-ghost use Rattle.proof_checker.specs.CircuitProof.{circuit_proof_fault};
 ghost use Rattle.skolem_checker.specs.Checks.{candidate_of};
 ghost use Rattle.skolem_checker.specs.Mapping.{IsAtPlace};
 ghost use Rattle.skolem_checker.specs.SkolemCircuit.{IsComplete};
-ghost use Rattle.cert_judge.specs.Judgement.{begins_with, first_line, begins_proof, answer_of_derivation, IsTestedByRows, IsTestedBy, IsTested, BehindMapping};
+ghost use Rattle.cert_judge.specs.Judgement.{begins_with, first_line, begins_proof, IsTestedByRows, IsTested, BehindMapping};
 ghost use Rattle.cert_judge.specs.Places.{HasFewLines, AnswersStop, mapping_line_in};
 ghost use Rattle.cert_judge.specs.declared.answers.CertificateFault.TheVariants.{Mapping};
-ghost use Rattle.cert_judge.specs.declared.answers.Judgement.TheVariants.{Refused, ValidTrue};
+ghost use Rattle.cert_judge.specs.declared.answers.Judgement.TheVariants.{Refused};
 
 use crate::answers::{CertificateFault, Judgement, refused};
 use aiger_text::{AagFile, AagStop};
-use cert_text::Dqp;
 use circuit_plain::Circuit;
 use dq_formula::Formula;
 use dq_lits::Memory;
 use dq_text::LineTokens;
-use proof_checker::{ProofFault, by_proof};
 use skolem_checker::laws::mapping_faults_have_places;
 use skolem_checker::{Bench, BenchStop, MapError, MapPlace};
 use std::alloc::Global;
@@ -112,29 +108,26 @@ pub(crate) fn mapping_refusal(
     refused(line, CertificateFault::Mapping(fault.name))
 }
 
-/// Judges a circuit file whose proof, if it has one, was read.
+/// Judges a circuit file that has no proof: its mapping, and then its circuit.
 pub(crate) fn judge_mapped(
     alloc: Global,
     f: &Formula,
     form: Form,
     first: u64,
     file: &AagFile,
-    proof: &Option<Dqp>,
 ) -> Result<Judgement, Memory>
     requires well_formed { IsWellFormed f.now }
     requires fits { first < 2 ^ 62 }
     requires complete { IsComplete file.now.circuit }
     requires few { HasFewLines file.now.circuit }
-    requires lawful { IfSome proof.now (IsDqpOf f.now file.now.circuit) }
-    ensures { IfOk result
-        (BehindMapping (mapping_line_in form first file.now.circuit) proof.now
+    ensures { IfOk result (BehindMapping (mapping_line_in form first file.now.circuit) None
         (candidate_of f.now file.now.circuit file.now.symbols)) }
 {
     match Bench::new(alloc, f, file) {
         Ok(mut bench) => {
-            let answer = judge_reads(alloc, f, &mut bench, proof);
+            let answer = judge_reads(f, &mut bench);
             drop(bench);
-            answer
+            Ok(answer)
         }
         Err(BenchStop::Map(fault)) => {
             mapping_faults_have_places();
@@ -144,62 +137,21 @@ pub(crate) fn judge_mapped(
     }
 }
 
-// Judges a mapped circuit: what it reads, and then its values.
-fn judge_reads(
-    alloc: Global,
-    f: &Formula,
-    bench: &mut Bench,
-    proof: &Option<Dqp>,
-) -> Result<Judgement, Memory>
-    requires formula { bench.old.formula ≡ f.now }
-    requires few { HasFewLines bench.old.circuit.netlist }
-    requires lawful { IfSome proof.now (IsDqpOf bench.old.formula bench.old.circuit.netlist) }
-    ensures { IfOk result (IsTested proof.now bench.old) }
+// Judges a mapped circuit: what it reads, and then its rows.
+fn judge_reads(f: &Formula, bench: &mut Bench) -> Judgement
+    requires { bench.old.formula ≡ f.now }
+    ensures { IsTested None bench.old result }
 {
     match bench.reads_ok() {
-        Ok(()) => judge_values(alloc, f, bench, proof),
-        Err((existential, universal)) => Ok(Judgement::UndeclaredRead {
+        Ok(()) => judge_rows(f, bench),
+        Err((existential, universal)) => Judgement::UndeclaredRead {
             existential,
             universal,
-        }),
+        },
     }
 }
 
-// Judges the values of a circuit that reads declared universals alone, by its proof or by rows.
-fn judge_values(
-    alloc: Global,
-    f: &Formula,
-    bench: &mut Bench,
-    proof: &Option<Dqp>,
-) -> Result<Judgement, Memory>
-    requires formula { bench.old.formula ≡ f.now }
-    requires few { HasFewLines bench.old.circuit.netlist }
-    requires lawful { IfSome proof.now (IsDqpOf bench.old.formula bench.old.circuit.netlist) }
-    ensures { IfOk result (IsTestedBy proof.now bench.old) }
-{
-    match proof {
-        Some(proof) => judge_proof(alloc, bench, proof),
-        None => Ok(judge_rows(f, bench)),
-    }
-}
-
-// Judges the proof that a circuit has.
-fn judge_proof(alloc: Global, bench: &Bench, proof: &Dqp) -> Result<Judgement, Memory>
-    requires few { HasFewLines bench.now.circuit.netlist }
-    requires lawful { IsDqpOf bench.now.formula bench.now.circuit.netlist proof.now }
-    ensures { IfOk result
-        (λ answer. answer
-        ≡ answer_of_derivation ValidTrue (circuit_proof_fault bench.now proof.now.items)) }
-{
-    match by_proof(alloc, bench, proof) {
-        Ok(()) => Ok(Judgement::ValidTrue),
-        Err(ProofFault::Step(id)) => Ok(Judgement::UnderivedStep { id }),
-        Err(ProofFault::NoEmptyClause) => Ok(Judgement::NoEmptyClause),
-        Err(ProofFault::Memory) => Err(Memory),
-    }
-}
-
-// Tries the rows of a circuit that has no proof.
+// Tries the rows.
 fn judge_rows(f: &Formula, bench: &mut Bench) -> Judgement
     requires { bench.old.formula ≡ f.now }
     ensures { IsTestedByRows bench.old.formula bench.old.circuit result }

@@ -130,7 +130,7 @@ pub(crate) fn finish_file(
     ensures { IfOk result (BehindMapping (mapping_line_in form first file.circuit) None
         (candidate_of f.now file.circuit file.symbols)) }
 {
-    let answer = judge_mapped(alloc, f, form, first, &file, &None);
+    let answer = judge_mapped(alloc, f, form, first, &file);
     drop(file);
     answer
 }
