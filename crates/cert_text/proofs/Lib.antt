@@ -16,6 +16,7 @@ pub mod NegatedClauses
 pub mod NumberWords
 pub mod PairNumbers
 pub mod Parts
+pub mod PlainItems
 pub mod PlainSteps
 pub mod SpelledProofs
 pub mod SpelledRefutations

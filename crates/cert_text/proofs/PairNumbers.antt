@@ -1,7 +1,7 @@
 -- The numbers of pairs: one for each row and existential.
-use Rattle.std.proofs.Common.{◌≡◌, ℕ, zero, suc, ◌+◌, ◌-◌, ◌*◌, ◌/◌, ◌%◌, ◌==◌, ◌≤◌, ◌<◌, ◌^◌, nat_lt, true, not, List, [], ◌∷◌, map, Option, Some, None, is_some, IsSome, refl, ◌∙◌, ap, arith}
+use Rattle.std.proofs.Common.{◌≡◌, ℕ, zero, suc, ◌+◌, ◌-◌, ◌*◌, ◌/◌, ◌%◌, ◌==◌, ◌≤◌, ◌<◌, ◌^◌, nat_lt, true, not, List, [], ◌∷◌, map, Option, Some, None, is_some, IsSome, refl, sym, ◌∙◌, ap, arith}
 use Rattle.std.specs.List.{AllByRecursion, find}
-use Rattle.std.proofs.Math.Nat.{div-add-mod, mod-eq_of_lt, mul-add-mod_self_right, mul-le-mul_left}
+use Rattle.std.proofs.Math.Nat.{div-add-mod, div-eq_of_lt, mod-eq_of_lt, mul-add-mod_self_right, mul-le-mul_left}
 use Rattle.std.proofs.lemmas.Bool.{and_from, and_parts, eqb-true, lt-ltb, ltb-true, ne_eqb, not_from_false, cases_Bool}
 use Rattle.std.proofs.lemmas.List.Elements.{recursion_from_All}
 use Rattle.std.proofs.lemmas.Nat.{div-mul-add}
@@ -85,3 +85,10 @@ is_pair f rows number lawful p = search (arith, is_of, existential_in_range)
 pub pair_small : (f : Dqbf) (rows number : ℕ) → IsLawful f → rows ≤ max_count → is_pair_number f rows number ≡ true →
     number < 10 ^ 18
 pair_small f rows number lawful few h = search (arith, pair_is, existential_in_range, mul-le-mul_left)
+
+-- pairs of the first row
+pub first_row : (place variables : ℕ) → place < variables → 0 ≡ place / variables
+first_row place variables lt = sym (div-eq_of_lt lt)
+
+pub first_place : (place variables : ℕ) → place < variables → place ≡ place % variables
+first_place place variables lt = sym (mod-eq_of_lt lt)

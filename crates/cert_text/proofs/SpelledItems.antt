@@ -36,7 +36,7 @@ some_ids : (ids : List ℕ) → 1 ≤ length ids → not (is_nil (hint_numbers i
 some_ids [] some = absurd (omega (arith, some))
 some_ids (id ∷ ids) some = refl
 
-deletion_kept : (ids : List ℕ) → 1 ≤ length ids → AreIds ids → deletion_of (hint_numbers ids ++ pos 0 ∷ []) ≡ Some ids
+pub deletion_kept : (ids : List ℕ) → 1 ≤ length ids → AreIds ids → deletion_of (hint_numbers ids ++ pos 0 ∷ []) ≡ Some ids
 deletion_kept ids some are =
     search (arith, hint_numbers, and_from, some_ids, hints_positive, cut, hints_nonzero, nat_abs, hints_back)
 
@@ -46,7 +46,7 @@ deletion_taken : (p : ℕ → Bool) (n : Numbering) (tokens : Tokens) (ids : Lis
 deletion_taken p n tokens ids numbered spelled is =
     search (arith, integers_taken, hint_numbers, deletion_kept, live_ids)
 
-marked_step : (p : ℕ → Bool) (n : Numbering) (tokens : Tokens) (s : ProofStep) → SpellsStep tokens s →
+pub marked_step : (p : ℕ → Bool) (n : Numbering) (tokens : Tokens) (s : ProofStep) → SpellsStep tokens s →
     step_line p n.next tokens ≡ Ok s →
     marked_line p n tokens ≡ Ok (derived s)
 marked_step p n [] s spelled taken = cc

@@ -132,7 +132,7 @@ literals_from : (p : ℕ → Bool) (ls : List Literal) → ((v : ℕ) → p v �
 literals_from p [] some all = tt
 literals_from p (l ∷ ls) some all = (some (variable_of l) all.0, literals_from p ls some all.1)
 
-ids_from : (next : ℕ) (hs : List ℕ) → AllByRecursion (λ h. (1 ≤ h) × (h < next)) hs → AreIds hs
+pub ids_from : (next : ℕ) (hs : List ℕ) → AllByRecursion (λ h. (1 ≤ h) × (h < next)) hs → AreIds hs
 ids_from next [] all = tt
 ids_from next (h ∷ hs) all = (all.0.0, ids_from next hs all.1)
 

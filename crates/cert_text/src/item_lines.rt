@@ -17,6 +17,7 @@ ghost use Rattle.cert_text.specs.Variables.{is_variable};
 use crate::faults::{CertFault, LineStop};
 use crate::line_ids::LineIds;
 use crate::numbers::take_integers;
+use crate::plain_steps::{behind_letter, take_plain_ids, take_plain_step};
 use crate::step_lines::{StepBuffers, are_positive, before_zero, keep_hints, read_step};
 use crate::variables::Variables;
 use crate::versions::Version;
@@ -77,6 +78,58 @@ fn read_marked(
         buffers.new.literals.items buffers.new.hints.items }
     ensures first { ids.new.first ≡ ids.old.first }
 {
+    match behind_letter(line) {
+        Some(behind) => read_deletion(behind, ids, buffers),
+        None => read_other(variables, line, ids, buffers),
+    }
+}
+
+// The same of a line that most likely isn't a deletion: a plain step isn't one.
+#[inline(always)]
+fn read_other(
+    variables: Variables,
+    line: &[u8],
+    ids: &mut LineIds,
+    buffers: &mut StepBuffers,
+) -> Result<ItemRead, LineStop>
+    requires { ids.old.first < 2 ^ 127 }
+    ensures item { IsItemOf (marked_line (is_variable variables.entry) (numbering ids.old)
+        (line_tokens line.now)) result buffers.new.literals.items buffers.new.hints.items }
+    ensures numbering { GoesOn (numbering ids.old) (numbering ids.new) result
+        buffers.new.literals.items buffers.new.hints.items }
+    ensures first { ids.new.first ≡ ids.old.first }
+{
+    let plain = take_plain_step(
+        variables,
+        ids.next(),
+        line,
+        &mut buffers.literals,
+        &mut buffers.hints,
+    )?;
+    match plain {
+        Some(id) => {
+            ids.push()?;
+            Ok(ItemRead::Line(id))
+        }
+        None => take_marked(variables, line, ids, buffers),
+    }
+}
+
+// The same of any line.
+#[inline(never)]
+fn take_marked(
+    variables: Variables,
+    line: &[u8],
+    ids: &mut LineIds,
+    buffers: &mut StepBuffers,
+) -> Result<ItemRead, LineStop>
+    requires { ids.old.first < 2 ^ 127 }
+    ensures item { IsItemOf (marked_line (is_variable variables.entry) (numbering ids.old)
+        (line_tokens line.now)) result buffers.new.literals.items buffers.new.hints.items }
+    ensures numbering { GoesOn (numbering ids.old) (numbering ids.new) result
+        buffers.new.literals.items buffers.new.hints.items }
+    ensures first { ids.new.first ≡ ids.old.first }
+{
     let mut tokens = LineTokens::new(line);
     match tokens.next() {
         Some(letter) if is_word(letter, b"d") => take_deletion(&mut tokens, ids, buffers),
@@ -106,6 +159,43 @@ fn read_line(
 }
 
 // Reads what stands behind the `d` of a deletion.
+#[inline(always)]
+fn read_deletion(
+    line: &[u8],
+    ids: &mut LineIds,
+    buffers: &mut StepBuffers,
+) -> Result<ItemRead, LineStop>
+    ensures item { IsItemOf (and_then (checked_ids (numbering ids.old))
+        (deleted_ids (line_tokens line.now))) result buffers.new.literals.items
+        buffers.new.hints.items }
+    ensures numbering { GoesOn (numbering ids.old) (numbering ids.new) result
+        buffers.new.literals.items buffers.new.hints.items }
+    ensures first { ids.new.first ≡ ids.old.first }
+{
+    let is_plain = take_plain_ids(line, &mut buffers.hints)?;
+    if is_plain {
+        return delete(ids, buffers);
+    }
+    take_deletion(&mut LineTokens::new(line), ids, buffers)
+}
+
+// Deletes the ids that stand in place of hints.
+#[inline(always)]
+fn delete(ids: &mut LineIds, buffers: &StepBuffers) -> Result<ItemRead, LineStop>
+    ensures item { IsItemOf (checked_ids (numbering ids.old) buffers.now.hints.items) result
+        buffers.now.literals.items buffers.now.hints.items }
+    ensures numbering { GoesOn (numbering ids.old) (numbering ids.new) result
+        buffers.now.literals.items buffers.now.hints.items }
+    ensures first { ids.new.first ≡ ids.old.first }
+{
+    if !ids.delete_all(&buffers.hints) {
+        return Err(LineStop::Fault(CertFault::NotLive));
+    }
+    Ok(ItemRead::Gone)
+}
+
+// The same of any tokens.
+#[inline(never)]
 fn take_deletion(
     tokens: &mut LineTokens,
     ids: &mut LineIds,
@@ -118,10 +208,7 @@ fn take_deletion(
     ensures first { ids.new.first ≡ ids.old.first }
 {
     take_ids(tokens, buffers)?;
-    if !ids.delete_all(&buffers.hints) {
-        return Err(LineStop::Fault(CertFault::NotLive));
-    }
-    Ok(ItemRead::Gone)
+    delete(ids, buffers)
 }
 
 // Puts the ids of a deletion in place of the hints in the buffer.

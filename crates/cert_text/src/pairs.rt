@@ -1,6 +1,6 @@
 //! The variables of an expansion refutation.
 
-ghost use Rattle.std.specs.Prelude.{◌≡◌, ◌≤◌, IsTrue};
+ghost use Rattle.std.specs.Prelude.{◌≡◌, ◌≤◌, ◌/◌, ◌%◌, IsTrue};
 ghost use Rattle.cert_text.specs.Pairs.{is_pair_number};
 
 use dq_formula::Formula;
@@ -23,7 +23,22 @@ impl<'a> Pairs<'a> {
         if variables == 0 || number == 0 {
             return false;
         }
-        let place = number - 1;
-        place / variables < self.rows && self.formula.is_existential(place % variables + 1)
+        let (row, place) = row_and_place(number - 1, variables);
+        row < self.rows && self.formula.is_existential(place + 1)
     }
+}
+
+// The row of a pair and its existential, both from 0, by the pair's number from 0. Pairs of the
+// first row cost no division, which takes as long as the reading of a literal.
+#[inline(always)]
+#[tactic(auto, using(crate::proofs::PairNumbers::first_row, crate::proofs::PairNumbers::first_place))]
+fn row_and_place(place: u64, variables: u64) -> (u64, u64)
+    requires { 1 ≤ variables }
+    ensures row { result.0 ≡ place / variables }
+    ensures place { result.1 ≡ place % variables }
+{
+    if place < variables {
+        return (0, place);
+    }
+    (place / variables, place % variables)
 }

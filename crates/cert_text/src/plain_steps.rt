@@ -1,15 +1,17 @@
-//! Steps that are as they should be, read in one pass.
+//! Steps and deletions that are as they should be, read in one pass.
 //!
 //! Where the quick pass gives up, the exact reader says what the line is, so that no refusal has a
-//! second way. A deletion goes through the exact reader at once.
+//! second way.
 
-ghost use Rattle.std.specs.Prelude.{◌≡◌, ◌≤◌, ◌<◌, ◌^◌, ◌∷◌, [], ◌++◌, true, nat_abs, pos, map, IfSome, IfOk, OnOk};
+ghost use Rattle.std.specs.Prelude.{◌≡◌, ◌≤◌, ◌<◌, ◌^◌, ◌∷◌, [], ◌++◌, true, false, nat_abs, pos, map, codes, Ok, IfSome, IfOk, OnOk};
 ghost use Rattle.std.specs.List.{All};
 ghost use Rattle.dq_lits.specs.Literal.{dimacs_literal, dimacs_number, variable_of};
 ghost use Rattle.dq_text.specs.Line.{line_tokens};
 ghost use Rattle.dq_text.specs.Number.{number_of};
+ghost use Rattle.dq_text.specs.Token.{goes_on};
 ghost use Rattle.dq_text.specs.declared.numbers.Number.TheVariants.{Int};
 ghost use Rattle.cert_text.specs.Grammar.{integers, SpellsStep, IsStep};
+ghost use Rattle.cert_text.specs.ItemLine.{deleted_ids};
 ghost use Rattle.cert_text.specs.PlainStep.{read_step, HintsTaken, LiteralsTaken};
 ghost use Rattle.cert_text.specs.StepNumbers.{IsLiteralNumber};
 ghost use Rattle.cert_text.specs.Variables.{is_variable};
@@ -51,6 +53,46 @@ pub fn take_plain_step(
         return Ok(None);
     };
     Ok(if ends(line) { Some(id) } else { None })
+}
+
+/// What stands behind a `d` and a space that the line begins with.
+#[inline(always)]
+pub fn behind_letter(line: &[u8]) -> Option<&[u8]>
+    ensures { IfSome result
+        (λ rest. line_tokens line.now ≡ codes "d" ∷ line_tokens rest.now) }
+{
+    match line.split_first() {
+        Some((b'd', behind)) => behind_space(behind),
+        _ => None,
+    }
+}
+
+#[inline(always)]
+fn behind_space(bytes: &[u8]) -> Option<&[u8]>
+    ensures ends { IfSome result (λ _. goes_on bytes.now ≡ false) }
+    ensures same { IfSome result (λ rest. line_tokens bytes.now ≡ line_tokens rest.now) }
+{
+    match bytes.split_first() {
+        Some((b' ', rest)) => Some(rest),
+        _ => None,
+    }
+}
+
+/// Puts the ids that stand behind the `d` of a deletion in place of the hints in a buffer. It answers
+/// false where the line isn't such a one, and maybe where it is.
+#[inline(always)]
+#[tactic(auto, using(crate::proofs::PlainItems::plain_ids))]
+pub fn take_plain_ids(line: &[u8], ids: &mut Vec<u64>) -> Result<bool, Memory>
+    ensures { IfOk result
+        (λ is_plain. is_plain ≡ true → deleted_ids (line_tokens line.now) ≡ Ok ids.new.items) }
+{
+    let Some(behind) = take_hints(u64::MAX, line, ids)? else {
+        return Ok(false);
+    };
+    if ids.is_empty() {
+        return Ok(false);
+    }
+    Ok(ends(behind))
 }
 
 // Whether no token is left.

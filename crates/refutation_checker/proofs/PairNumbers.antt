@@ -1,6 +1,7 @@
 -- The numbers of pairs.
-use Rattle.std.proofs.Common.{◌≡◌, ℕ, ◌+◌, ◌-◌, ◌/◌, ◌%◌, ◌==◌, Bool, true, List, [], ◌∷◌, map, length, get_or, Option, None, Some, nat_lt, refl, sym, ◌∙◌, ap, subst, arith}
+use Rattle.std.proofs.Common.{◌≡◌, ℕ, ◌+◌, ◌-◌, ◌/◌, ◌%◌, ◌==◌, ◌<◌, Bool, true, List, [], ◌∷◌, map, length, get_or, Option, None, Some, nat_lt, refl, sym, ◌∙◌, ap, ap₂, arith}
 use Rattle.std.specs.List.{find, filter_map}
+use Rattle.std.proofs.Math.Nat.{div-eq_of_lt, mod-eq_of_lt}
 use Rattle.std.proofs.lemmas.Bool.{cases_Bool, eqb-true, and_parts, ltb-true}
 use Rattle.std.proofs.lemmas.Option.{slice_get-get_or}
 use Rattle.dq_lits.specs.Expansion.{pair_number, pair_literal}
@@ -28,13 +29,13 @@ pub named_is : (f : Dqbf) (rows : List (List Bool)) (number : ℕ) → is_pair_n
     ((number - 1) % f.variables + 1)
 named_is f rows number h = search (arith, slice_get-get_or, ltb-true, and_parts, nat_lt, pair_number_is)
 
-pub named_by : (f : Dqbf) (rows : List (List Bool)) (number variables : ℕ) → variables ≡ f.variables →
-    is_pair_number f (length rows) number ≡ true
-    → normal_number f rows number ≡ pair_of f rows (get_or rows ((number - 1) / variables) [])
-    ((number - 1) % variables + 1)
-named_by f rows number variables is h =
-    subst (λ w. normal_number f rows number ≡ pair_of f rows (get_or rows ((number - 1) / w) []) ((number - 1) % w + 1))
-    (sym is) (named_is f rows number h)
+pub named_by : (f : Dqbf) (rows : List (List Bool)) (number variables k y : ℕ) → variables ≡ f.variables →
+    k ≡ (number - 1) / variables → y ≡ (number - 1) % variables → is_pair_number f (length rows) number ≡ true
+    → normal_number f rows number ≡ pair_of f rows (get_or rows k []) (y + 1)
+named_by f rows number variables k y is k_is y_is h =
+    named_is f rows number h
+    ∙ ap₂ (λ k y. pair_of f rows (get_or rows k []) (y + 1)) (sym (k_is ∙ ap (λ w. (number - 1) / w) is))
+    (sym (y_is ∙ ap (λ w. (number - 1) % w) is))
 
 -- an instance's literals are those of the clause's existential part
 pub instance_part : (f : Dqbf) (rows : List (List Bool)) (row : List Bool) (clause : List Literal)
@@ -52,3 +53,10 @@ instance_part f rows row (l ∷ clause) = by (existential_of f (variable_of l)) 
     by (Some e) found rest = rw found (ap (λ n. on_variable n l ∷ filter_map (pair_literal f rows row) clause)
         (pair_number_is f rows row (variable_of l) e found) ∙ ap
         (λ ls. on_variable (pair_of f rows row (variable_of l)) l ∷ ls) rest)
+
+-- pairs of the first row
+pub first_row : (place variables : ℕ) → place < variables → 0 ≡ place / variables
+first_row place variables lt = sym (div-eq_of_lt lt)
+
+pub first_place : (place variables : ℕ) → place < variables → place ≡ place % variables
+first_place place variables lt = sym (mod-eq_of_lt lt)

@@ -1,6 +1,6 @@
 //! Lines that are judged one by one, on the names of their pairs.
 
-ghost use Rattle.std.specs.Prelude.{◌≡◌, ◌<◌, ◌≤◌, ◌^◌, ◌++◌, ◌∷◌, ℕ, [], true, false, map, List, All, None, Some, length, slice_index_or, IfOk, IfSome, OnOk, IsSome};
+ghost use Rattle.std.specs.Prelude.{◌≡◌, ◌<◌, ◌≤◌, ◌^◌, ◌/◌, ◌%◌, ◌++◌, ◌∷◌, ℕ, [], true, false, map, List, All, None, Some, length, slice_index_or, IfOk, IfSome, OnOk, IsSome};
 ghost use Rattle.std.specs.Option.{option_and_then};
 ghost use Rattle.dq_lits.specs.Expansion.{instance_at, universal_literal_true};
 ghost use Rattle.dq_lits.specs.Formula.{existential_of};
@@ -147,6 +147,21 @@ fn read_clause(
     Ok(true)
 }
 
+// The row of a pair and its existential, both from 0, by the pair's number from 0. Pairs of the
+// first row cost no division, which takes as long as the reading of a literal.
+#[inline(always)]
+#[tactic(auto, using(crate::proofs::PairNumbers::first_row, crate::proofs::PairNumbers::first_place))]
+fn row_and_place(place: u64, variables: u64) -> (u64, u64)
+    requires { 1 ≤ variables }
+    ensures row { result.0 ≡ place / variables }
+    ensures place { result.1 ≡ place % variables }
+{
+    if place < variables {
+        return (0, place);
+    }
+    (place / variables, place % variables)
+}
+
 // Puts the literals of a line on the names of their pairs.
 fn name_line(
     e: &Expansion,
@@ -165,15 +180,9 @@ fn name_line(
 {
     line.clear();
     for l in lits {
-        let variables = e.formula.vars();
-        let place = l.var() - 1;
-        let named = name(
-            e,
-            names,
-            *l,
-            place % variables + 1,
-            (place / variables) as usize,
-        )?;
+        let number = l.var();
+        let at = row_and_place(number - 1, e.formula.vars());
+        let named = name(e, names, *l, at.1 + 1, at.0 as usize)?;
         line.push(named)?;
     }
     Ok(())
@@ -194,6 +203,7 @@ pub(crate) struct Judging {
 }
 
 // The places of the row and the clause whose instance has an id.
+#[tactic(auto, using(crate::proofs::InstanceIds::behind_all))]
 fn instance_places(e: &Expansion, id: u64) -> Option<(usize, usize)>
     ensures within { IfSome result (λ at. (at.0 < length (frame e.now).rows)
         × (at.1 < length (frame e.now).formula.matrix)) }
@@ -202,6 +212,10 @@ fn instance_places(e: &Expansion, id: u64) -> Option<(usize, usize)>
 {
     let clauses = e.formula.clauses() as u64;
     if id == 0 || clauses == 0 {
+        return None;
+    }
+    // Most hints are lines, which stand behind the instances. They cost no division.
+    if id > (e.rows.len() as u64).saturating_mul(clauses) {
         return None;
     }
     let k = (id - 1) / clauses;
