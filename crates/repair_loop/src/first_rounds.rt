@@ -40,7 +40,8 @@ enum FirstCandidates {
 }
 
 impl<'f, 'p> Search<'f, 'p> {
-    /// A round from constants, and a look at its row's instances: a verdict, if it comes to one.
+    /// A round from candidates that are at hand, and a look at its row's instances: a verdict, if it
+    /// comes to one.
     pub(crate) fn first_round<O: Oracle>(
         &self,
         oracle: &mut O,

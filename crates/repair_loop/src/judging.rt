@@ -38,8 +38,8 @@ pub(crate) struct Candidates<'g, 'o> {
 }
 
 impl<'f, 'p> Search<'f, 'p> {
-    // Checks candidates, and logs a round where they fail: at a row that is known to refute the
-    // formula, if there is one, else where the solver finds that they do.
+    // Checks candidates, and logs a round where they fail: at a row that is at hand, if they fail at
+    // one, else where the solver finds that they do.
     pub(crate) fn judge<O: Oracle>(
         &self,
         oracle: &mut O,
@@ -66,11 +66,33 @@ impl<'f, 'p> Search<'f, 'p> {
             → IsNewRound self.now.f.now database.now checker.new self.now.definability.now self.now.may_ask row log.old log.new }
         ensures stopped { IsStoppedAs self.now.f.now database.now log.new result }
     {
-        if let Some(failure) = self.known_failure(candidates, known)? {
+        if let Some(failure) = self.failure_at_hand(candidates, database, known)? {
             self.log_failure(oracle, candidates, database, checker, &failure, log)?;
             return Ok(Judged::Fail(failure.row));
         }
         self.judge_by_solver(oracle, candidates, database, checker, known, log)
+    }
+
+    // How candidates fail at a row that no solver was asked for: one that is known to refute the
+    // formula, or one beside the newest.
+    fn failure_at_hand(
+        &self,
+        candidates: &Candidates,
+        database: &ClauseDatabase,
+        known: &Known,
+    ) -> Result<Option<Failure>, Memory>
+        requires formula { IsWellFormed self.now.f.now }
+        requires inputs { HasInputs self.now.f.now candidates.now.graph.now }
+        requires candidates { (rows : List (List Bool)) × AreBuilt self.now.f.now
+            candidates.now.graph.now rows candidates.now.outputs.now }
+        ensures { IfOk result (λ found. IfSome found (λ failure. IsFailure self.now.f.now
+            (outputs_of self.now.f.now candidates.now.graph.now candidates.now.outputs.now)
+            failure.row failure.values failure.j)) }
+    {
+        match self.known_failure(candidates, known)? {
+            Some(failure) => Ok(Some(failure)),
+            None => self.find_unseen_turn(candidates, database, known),
+        }
     }
 
     // How candidates fail at one of the rows that are known to refute the formula.

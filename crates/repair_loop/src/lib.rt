@@ -18,4 +18,5 @@ mod preservation;
 mod search_states;
 mod searches;
 mod signs;
+mod unseen_turns;
 mod worse_rows;

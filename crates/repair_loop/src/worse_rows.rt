@@ -80,7 +80,7 @@ impl<'f, 'p> Search<'f, 'p> {
     }
 
     // How candidates fail at a row with the bit at a place turned, if they do.
-    fn turned(&self, candidates: &Candidates, row: &Row, place: usize) -> Option<Failure>
+    pub(crate) fn turned(&self, candidates: &Candidates, row: &Row, place: usize) -> Option<Failure>
         requires formula { IsWellFormed self.now.f.now }
         requires inputs { HasInputs self.now.f.now candidates.now.graph.now }
         requires candidates { (rows : List (List Bool)) × AreBuilt self.now.f.now
@@ -106,7 +106,7 @@ impl<'f, 'p> Search<'f, 'p> {
 }
 
 // How many literals the clauses have together, and one for each clause.
-fn count_literals(f: &Formula) -> usize {
+pub(crate) fn count_literals(f: &Formula) -> usize {
     let mut count = 0usize;
     for number in 0..f.clauses() {
         count = count

@@ -1,7 +1,7 @@
 use Rattle.repair_loop.proofs.searches.Search.judge.Goals as goal
 
-pub known_failure-requires-clause-formula : goal.known_failure-requires-clause-formula
-known_failure-requires-clause-formula g c = c.requires.search.here.way.formula
+pub failure_at_hand-requires-clause-formula : goal.failure_at_hand-requires-clause-formula
+failure_at_hand-requires-clause-formula g c = c.requires.search.here.way.formula
 
-pub known_failure-requires-clause-candidates : goal.known_failure-requires-clause-candidates
-known_failure-requires-clause-candidates g c = (c.args.database.now.table.rows, c.requires.candidates)
+pub failure_at_hand-requires-clause-candidates : goal.failure_at_hand-requires-clause-candidates
+failure_at_hand-requires-clause-candidates g c = (c.args.database.now.table.rows, c.requires.candidates)
