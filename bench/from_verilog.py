@@ -3,7 +3,7 @@
 by Debian's yosys (tools/fill.py --circuits), and the built solver says by `pec` whether the boxes can be filled: where each box sees what it
 needs they can, and where boxes are blind they can't. The checker judges each certificate on the formula that `encode` writes. Prints a line
 for each design, with the gates of the circuit or the rows of the refutation. A verdict that isn't the expected one, or a certificate that
-isn't VALID, ends the run with 1; so do more than two designs that aren't decided.
+isn't VALID, ends the run with 1; so does a design that isn't decided.
 
 Usage: bench/from_verilog.py [--limit SECONDS] [--beside PROGRAM] [DESIGN..]      10 seconds, and all designs
 
@@ -24,14 +24,13 @@ from solve import facts
 
 TEXTS = os.path.join(TOP, "bench", "verilog")
 VERDICTS = {10: "TRUE", 20: "FALSE", 0: "UNKNOWN", None: "-"}
-MOST_LOST = 2
 
 # A design, its size, and whether boxes are blind.
 DESIGNS = [("adder", 16, False), ("adder", 64, False), ("adder", 64, True), ("alu", 16, False), ("alu", 16, True)]
 DESIGNS += [("gray", 12, False), ("gray", 12, True), ("gray", 20, False), ("gray", 20, True)]
 DESIGNS += [("crc", 8, False), ("crc", 12, False), ("crc", 16, False), ("crc", 16, True)]
 DESIGNS += [("multiplier", 5, False), ("multiplier", 6, False), ("multiplier", 6, True)]
-DESIGNS += [("arbiter", 32, False), ("arbiter", 64, False), ("arbiter", 16, True), ("arbiter", 32, True)]
+DESIGNS += [("arbiter", 32, False), ("arbiter", 64, False), ("arbiter", 16, True), ("arbiter", 32, True), ("arbiter", 64, True)]
 
 
 class Fault(Exception):
@@ -119,7 +118,7 @@ def main(arguments):
             print(fault)
             return 1
     print(f"{len(chosen) - len(lost)} of {len(chosen)} designs decided within {words.limit:g} s")
-    return 1 if len(lost) > MOST_LOST else 0
+    return 1 if lost else 0
 
 
 if __name__ == "__main__":
