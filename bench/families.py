@@ -509,12 +509,14 @@ def tables(rng, size):
 
 def cubes(rng, size):
     """Two existentials that see two universals more than the size, and clauses that say their values on so many random cubes of four literals
-    for each bit, and nothing else of them. True."""
+    for each bit, or as many as a hundred thousand draws give, and nothing else of them. True."""
     formula = Formula()
     universals = formula.word(size + 2)
     for _ in range(2):
         output, said = formula.existential(), {1: [], -1: []}
-        while min(len(said[1]), len(said[-1])) < size:
+        for _ in range(100_000):
+            if min(len(said[1]), len(said[-1])) == size:
+                break
             sign = rng.choice((1, -1))
             cube = [rng.choice((1, -1)) * x for x in rng.sample(universals, 4)]
             if len(said[sign]) < size and all(any(-l in cube for l in other) for other in said[-sign]):
