@@ -3,7 +3,7 @@
 them: the other solver within a few seconds, the built one within ten times as many. Prints a line for each formula: both verdicts and
 seconds, and the rows of a refutation or the gates of a circuit, whose certificate the built checker judges. Behind them stand how many of
 the formulas that the other one decides the built one does too, those that it loses, the geometric mean of how many times the other's time
-it takes where both decide, and what it alone decides. Verdicts that differ, or a certificate that isn't VALID, end the run with 1.
+it takes where both decide, and up to which sizes it alone decides. Verdicts that differ, or a certificate that isn't VALID, end the run with 1.
 
 Usage: bench/beside.py --beside PROGRAM [--seconds N] [--seed N] [--summary] [--csv FILE] [FAMILY..]
 
@@ -19,6 +19,7 @@ import resource
 import subprocess
 import sys
 import tempfile
+import textwrap
 
 from bench import CHECKER
 from decisions import SOLVER
@@ -30,9 +31,10 @@ STEPS = "1000000000"
 # The built solver may take so many times the seconds of the other one.
 TIMES = 10
 # Shorter times aren't told apart.
-SHORTEST = 0.01
+SHORTEST = 0.02
 # From here on a time tells something of the search.
 TELLING = 0.1
+WIDTH = 118
 COLUMNS = ["family", "size", "seed", "other", "other_seconds", "verdict", "seconds", "rows", "gates"]
 
 
@@ -106,11 +108,11 @@ class Beside:
         due = [row for row in self.rows if row["other"]]
         both = [row for row in due if row["verdict"]]
         lost = [f"{row['family']} {row['size']}" for row in due if not row["verdict"]]
-        alone = [f"{row['family']} {row['size']}" for row in self.rows if row["verdict"] and not row["other"]]
+        alone = {row["family"]: f"{row['family']} to {row['size']}" for row in self.rows if row["verdict"] and not row["other"]}
         print(f"{len(both)} of {len(due)} that the other decides; lost: {', '.join(lost) or 'none'}")
         for least in (0, TELLING):
             print_mean([row for row in both if max(row["seconds"], row["other_seconds"]) >= least], least)
-        print(f"alone: {', '.join(alone) or 'none'}")
+        print(textwrap.fill(f"alone: {', '.join(alone.values()) or 'none'}", WIDTH, subsequent_indent="  "))
 
 
 def print_mean(rows, least):
