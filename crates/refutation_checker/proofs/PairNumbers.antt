@@ -1,7 +1,6 @@
 -- The numbers of pairs.
-use Rattle.std.proofs.Common.{◌≡◌, ℕ, ◌+◌, ◌-◌, ◌/◌, ◌%◌, ◌==◌, ◌<◌, Bool, true, List, [], ◌∷◌, map, length, get_or, Option, None, Some, nat_lt, refl, sym, ◌∙◌, ap, ap₂, arith}
+use Rattle.std.proofs.Common.{◌≡◌, ℕ, ◌+◌, ◌-◌, ◌/◌, ◌%◌, ◌==◌, Bool, true, List, [], ◌∷◌, map, length, get_or, Option, None, Some, nat_lt, refl, sym, ◌∙◌, ap, ap₂, arith}
 use Rattle.std.specs.List.{find, filter_map}
-use Rattle.std.proofs.Math.Nat.{div-eq_of_lt, mod-eq_of_lt}
 use Rattle.std.proofs.lemmas.Bool.{cases_Bool, eqb-true, and_parts, ltb-true}
 use Rattle.std.proofs.lemmas.Option.{slice_get-get_or}
 use Rattle.dq_lits.specs.Expansion.{pair_number, pair_literal}
@@ -53,10 +52,3 @@ instance_part f rows row (l ∷ clause) = by (existential_of f (variable_of l)) 
     by (Some e) found rest = rw found (ap (λ n. on_variable n l ∷ filter_map (pair_literal f rows row) clause)
         (pair_number_is f rows row (variable_of l) e found) ∙ ap
         (λ ls. on_variable (pair_of f rows row (variable_of l)) l ∷ ls) rest)
-
--- pairs of the first row
-pub first_row : (place variables : ℕ) → place < variables → 0 ≡ place / variables
-first_row place variables lt = sym (div-eq_of_lt lt)
-
-pub first_place : (place variables : ℕ) → place < variables → place ≡ place % variables
-first_place place variables lt = sym (mod-eq_of_lt lt)

@@ -150,7 +150,7 @@ fn read_clause(
 // The row of a pair and its existential, both from 0, by the pair's number from 0. Pairs of the
 // first row cost no division, which takes as long as the reading of a literal.
 #[inline(always)]
-#[tactic(auto, using(crate::proofs::PairNumbers::first_row, crate::proofs::PairNumbers::first_place))]
+#[tactic(auto, using(cert_text::proofs::PairNumbers::first_row, cert_text::proofs::PairNumbers::first_place))]
 fn row_and_place(place: u64, variables: u64) -> (u64, u64)
     requires { 1 ≤ variables }
     ensures row { result.0 ≡ place / variables }
