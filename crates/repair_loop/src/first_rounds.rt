@@ -203,6 +203,7 @@ impl<'f, 'p> Search<'f, 'p> {
         Known {
             definitions,
             trees: Trees::new(self.alloc),
+            premises: Vec::new(self.alloc),
         }
     }
 

@@ -74,7 +74,7 @@ impl<'f, 'p> Search<'f, 'p> {
     }
 
     // How candidates fail at a row that no solver was asked for: one that is known to refute the
-    // formula, or one beside the newest.
+    // formula, one beside the newest, or one that is drawn.
     fn failure_at_hand(
         &self,
         candidates: &Candidates,
@@ -89,9 +89,12 @@ impl<'f, 'p> Search<'f, 'p> {
             (outputs_of self.now.f.now candidates.now.graph.now candidates.now.outputs.now)
             failure.row failure.values failure.j)) }
     {
-        match self.known_failure(candidates, known)? {
+        if let Some(failure) = self.known_failure(candidates, known)? {
+            return Ok(Some(failure));
+        }
+        match self.find_unseen_turn(candidates, database, known)? {
             Some(failure) => Ok(Some(failure)),
-            None => self.find_unseen_turn(candidates, database, known),
+            None => self.find_drawn(candidates, database, known),
         }
     }
 

@@ -8,12 +8,15 @@ pub use search_states::SearchState;
 
 mod candidates;
 mod decisions;
+mod drawn_rows;
+mod draws;
 mod false_rows;
 mod first_copies;
 mod first_looks;
 mod first_rounds;
 mod judging;
 pub mod laws;
+mod premises;
 mod preservation;
 mod search_states;
 mod searches;

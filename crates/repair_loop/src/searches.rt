@@ -13,6 +13,7 @@ use crate::candidates::Proposal;
 use crate::decisions::Verdict;
 use crate::false_rows::find_first_row;
 use crate::judging::{Candidates, Judged};
+use crate::premises::{Premise, find_premises};
 use crate::preservation::{
     instances_leave_logs, instances_leave_searches, questions_leave_searches,
 };
@@ -42,6 +43,8 @@ pub(crate) struct Search<'f, 'p> {
 pub(crate) struct Known {
     pub definitions: Definitions,
     pub trees: Trees,
+    /// Under which rows are drawn.
+    pub premises: Vec<Premise>,
 }
 
 impl<'f, 'p> Search<'f, 'p> {
@@ -123,9 +126,11 @@ impl<'f, 'p> Search<'f, 'p> {
         ensures limit { IsErrOf result Stop.Limit → IsAtSomeLimit log.new }
     {
         let definitions = self.find_definitions(oracle, graph, log)?;
+        let premises = find_premises(self.alloc, self.f, graph, &definitions)?;
         Ok(Known {
             definitions,
             trees: Trees::new(self.alloc),
+            premises,
         })
     }
 
